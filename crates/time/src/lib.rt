@@ -17,8 +17,6 @@ pub enum Sum {
     Overflow,
 }
 
-const LAST: u64 = 0xffff_ffff_ffff_ffff;
-
 const MICROS: u64 = 1_000_000;
 
 impl Time {
@@ -49,8 +47,8 @@ impl Time {
     pub fn checked_add(self, d: Duration) -> Sum
         ensures { λ r. ⌜ r ≡ added self d ⌝ }
     {
-        let low = LAST - self.1;
-        let high = LAST - self.0;
+        let low = u64::MAX - self.1;
+        let high = u64::MAX - self.0;
         if high < d.0 {
             return Sum::Overflow;
         }
@@ -83,7 +81,7 @@ impl Time {
             return Duration(0, 0);
         }
         if self.1 < from.1 {
-            return Duration(self.0 - from.0 - 1, LAST - (from.1 - self.1) + 1);
+            return Duration(self.0 - from.0 - 1, u64::MAX - (from.1 - self.1) + 1);
         }
         Duration(self.0 - from.0, self.1 - from.1)
     }

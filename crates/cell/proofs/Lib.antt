@@ -1,0 +1,9 @@
+pub mod Maps
+pub mod Table
+pub mod Class
+pub mod Partly
+pub mod Slot
+pub mod Rule
+pub mod Amount
+pub mod Sensed
+pub mod Ceiling

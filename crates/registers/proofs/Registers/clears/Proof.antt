@@ -1,0 +1,19 @@
+-- `registers::Registers::clears` meets its contract: the calls give the numbers that the definition compares.
+-- Assumes nothing.
+use Rattle.registers.specs.Supplies.{clears}
+use borrow.Author.Needs.{needs}
+use Rattle.registers.proofs.Registers.clears.Statement.{statement}
+use Rattle.registers.proofs.Registers.clears.Tie as tie
+
+mode-number-requires : tie.Need-mode-number-requires
+mode-number-requires c κs = search needs
+
+mode-number-requires-2 : tie.Need-mode-number-requires-2
+mode-number-requires-2 c κs = search needs
+
+returns : tie.Need-returns
+unfolding clears
+returns c = cc
+
+pub clears-spec : {M : Type 1} → statement M
+clears-spec = tie.close (tie.spec mode-number-requires mode-number-requires-2 returns)

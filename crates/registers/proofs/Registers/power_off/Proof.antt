@@ -1,0 +1,16 @@
+-- `registers::Registers::power_off` meets its contract: it is a reset with three fields changed.
+-- Assumes nothing.
+use Rattle.registers.specs.Supplies.{powerOff}
+use borrow.Author.Needs.{needs}
+use Rattle.registers.proofs.Registers.power_off.Statement.{statement}
+use Rattle.registers.proofs.Registers.power_off.Tie as tie
+
+reset-requires : tie.Need-reset-requires
+reset-requires c κs = search needs
+
+returns : tie.Need-returns
+unfolding powerOff
+returns c = cc
+
+pub power-off-spec : {M : Type 1} → statement M
+power-off-spec = tie.close (tie.spec reset-requires returns)

@@ -1,0 +1,22 @@
+-- `registers::Registers::reset` meets its contract: the calls compose as the definitions do, and the other fields are the definition's.
+-- Assumes nothing.
+use Rattle.registers.specs.Supplies.{reset, blankLatch}
+use borrow.Author.Needs.{needs}
+use Rattle.registers.proofs.Registers.reset.Statement.{statement}
+use Rattle.registers.proofs.Registers.reset.Tie as tie
+
+settled-requires : tie.Need-settled-requires
+settled-requires c κs = search needs
+
+cleared-requires : tie.Need-cleared-requires
+cleared-requires c κs = search needs
+
+returns : tie.Need-returns
+unfolding reset blankLatch
+returns c =
+    let b5 = c .before .before .before .before .before in
+    let b6 = b5 .before in
+    rw (b5 .cleared .ensures, b6 .settled .ensures)
+
+pub reset-spec : {M : Type 1} → statement M
+reset-spec = tie.close (tie.spec settled-requires cleared-requires returns)

@@ -1,0 +1,27 @@
+-- `registers::Registers::sense_pending` meets its contract: the calls give the latest of the four instants.
+-- Assumes nothing.
+use borrow.Author.Needs.{needs}
+use Rattle.registers.proofs.Registers.sense_pending.Statement.{statement}
+use Rattle.registers.proofs.Registers.sense_pending.Tie as tie
+
+after-requires : tie.Need-after-requires
+after-requires c κs = search needs
+
+max-requires : tie.Need-max-requires
+max-requires c κs = search needs
+
+max-requires-2 : tie.Need-max-requires-2
+max-requires-2 c κs = search needs
+
+max-requires-3 : tie.Need-max-requires-3
+max-requires-3 c κs = search needs
+
+mul-t9 : tie.Need-mul-t9
+mul-t9 c = search needs
+
+returns : tie.Need-returns
+returns c = cc
+
+pub sense-pending-spec : {M : Type 1} → statement M
+sense-pending-spec =
+    tie.close (tie.spec after-requires max-requires max-requires-2 max-requires-3 mul-t9 returns)

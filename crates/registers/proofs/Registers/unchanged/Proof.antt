@@ -1,0 +1,36 @@
+-- `registers::Registers::unchanged` meets its contract: the calls give the numbers that the definition compares.
+-- Assumes nothing.
+use Rattle.registers.specs.Supplies.{unchanged}
+use borrow.Author.Needs.{needs}
+use Rattle.registers.proofs.Registers.unchanged.Statement.{statement}
+use Rattle.registers.proofs.Registers.unchanged.Tie as tie
+
+supply-in-requires : tie.Need-supply-in-requires
+supply-in-requires c κs = search needs
+
+supply-number-requires : tie.Need-supply-number-requires
+supply-number-requires c κs = search needs
+
+supply-number-requires-2 : tie.Need-supply-number-requires-2
+supply-number-requires-2 c κs = search needs
+
+mode-number-requires : tie.Need-mode-number-requires
+mode-number-requires c κs = search needs
+
+mode-number-requires-2 : tie.Need-mode-number-requires-2
+mode-number-requires-2 c κs = search needs
+
+returns : tie.Need-returns
+unfolding unchanged
+returns c = cc
+
+pub unchanged-spec : {M : Type 1} → statement M
+unchanged-spec =
+    tie.close
+    (tie.spec
+    supply-in-requires
+    supply-number-requires
+    supply-number-requires-2
+    mode-number-requires
+    mode-number-requires-2
+    returns)

@@ -1,0 +1,34 @@
+-- The worked instants (a) to (g) of document 01 hold of the definitions: the numbers by computation, the erase writes because settling
+-- leaves control as it is.
+-- Assumes nothing.
+use mathlib.Core.Path.{_≡_, refl, ap, _∙_}
+use mathlib.Core.Bool.{true}
+use Prim.Native.Nat.{ℕ}
+use Rattle.time.specs.declared.Time.{Time}
+use Rattle.cell.specs.Cell.{classOf, limitOf, exposed, moved}
+use Rattle.registers.specs.declared.Registers.{Registers}
+use Rattle.registers.specs.Control.{EBR1, SWE, has, eraseValue, settled, registerSet, writeRegister}
+use Rattle.registers.specs.Pulses.{eraseRange}
+use Rattle.registers.specs.Worked.{Worked}
+use Rattle.registers.proofs.Laws.{settled-fields}
+use Rattle.registers.proofs.Tests.{cond-yes}
+
+-- a write to F023 while enabled and with SWE stores the erase value
+erase-stored : (v : ℕ) (now : Time) (r : Registers) → r .enabled ≡ true → has (r .control) SWE ≡ true → writeRegister EBR1 v now r .erase ≡ eraseValue v
+unfolding writeRegister registerSet
+erase-stored v now r e s =
+    let t : has (settled now r .control) SWE ≡ true = ap (λ (x : Registers). has (x .control) SWE) (settled-fields now r) ∙ s in
+    rw (cond-yes (r .enabled) _ _ e, cond-yes (has (settled now r .control) SWE) _ _ t)
+
+pub worked : Worked
+unfolding classOf limitOf exposed moved eraseRange
+worked =
+    record {
+      a = (refl, refl, refl, refl);
+      b = refl;
+      c = refl;
+      d = (refl, refl);
+      e = (refl, refl);
+      f = λ latched. (refl, refl);
+      g = λ now r e s. (erase-stored 3 now r e s, erase-stored 64 now r e s, refl);
+    }

@@ -1,0 +1,107 @@
+-- Supply, reset and power-off. Document 01, "Supply and reset".
+-- Assumes nothing.
+use Prim.Native.Nat.{ℕ}
+use mathlib.Core.Bool.{Bool, true, false, cond, not, _&&_, _||_, Bool·beq}
+use mathlib.Core.List.{List}
+use lib.Dec.{leb, eqb}
+use lib.ListN.{replicate}
+use Rattle.time.specs.declared.Time.{Time}
+use Rattle.time.specs.Raw.{instant}
+use Rattle.registers.specs.declared.Registers.{Registers}
+use Rattle.registers.specs.declared.Mode.{Mode}
+use Rattle.registers.specs.declared.Mode.the-variants.{Active, Subactive, Sleep, Subsleep, Watch, Standby}
+use Rattle.registers.specs.declared.Supply.{Supply}
+use Rattle.registers.specs.declared.Supply.the-variants.{Normal, Reduced, Stopped}
+use Rattle.registers.specs.declared.Pending.the-variants.{Nothing}
+use Rattle.registers.specs.Fields.{withControl, withError, withErase, withEnabled, withPowerDownDisabled, withLatch, withPage, withSupply, withOscillator, withMode, withModule, withReady, withSweReady, withProgramReady, withEraseReady, withRecovery, withVerifyPending}
+use Rattle.registers.specs.Control.{supplyNumber, renewed, settled}
+
+-- Modes 0 to 5: Active, Subactive, Sleep, Subsleep, Watch, Standby.
+abbrev pub modeNumber : Mode → ℕ
+modeNumber Active = 0
+modeNumber Subactive = 1
+modeNumber Sleep = 2
+modeNumber Subsleep = 3
+modeNumber Watch = 4
+modeNumber Standby = 5
+
+-- Supply is Stopped without module or in modes 3 to 5; Reduced in Subactive unless power-down is disabled; else Normal.
+unfoldable pub supplyIn : Mode → Bool → Bool → Supply
+supplyIn mode modul powerDownDisabled =
+    cond (not modul || leb 3 (modeNumber mode)) Stopped
+    (cond (eqb (modeNumber mode) 1 && not powerDownDisabled) Reduced Normal)
+
+-- the latch's 128 bytes FF
+unfoldable pub blankLatch : List ℕ
+blankLatch = replicate 128 0xFF
+
+-- control, error, erase and pending cleared
+abbrev pub cleared : Registers → Registers
+cleared r = withControl 0 (withError false (withErase 0 (withVerifyPending Nothing r)))
+
+-- Reset settles, clears those four, then enabled and power-down; latch becomes FF, page 0, recovery now.
+unfoldable pub reset : Time → Registers → Registers
+reset now r =
+    withEnabled false (withPowerDownDisabled false (withLatch blankLatch (withPage 0 (withRecovery now (cleared (settled now r))))))
+
+-- Power-off is reset, then Stopped, no oscillator, no module.
+unfoldable pub powerOff : Time → Registers → Registers
+powerOff now r = withSupply Stopped (withOscillator false (withModule false (reset now r)))
+
+-- A fresh array has every register, flag and time 0, page 0, latch FF, nothing pending, supply Normal, mode Active, oscillator
+-- and module on.
+unfoldable pub fresh : Registers
+fresh =
+    record {
+      control = 0;
+      error = false;
+      erase = 0;
+      enabled = false;
+      «power_down_disabled» = false;
+      latch = blankLatch;
+      page = 0;
+      supply = Normal;
+      oscillator = true;
+      mode = Active;
+      «module» = true;
+      ready = instant 0;
+      «swe_ready» = instant 0;
+      «program_ready» = instant 0;
+      «erase_ready» = instant 0;
+      recovery = instant 0;
+      «verify_ready» = instant 0;
+      «verify_pending» = Nothing;
+    }
+
+-- ---- environment
+
+-- the same supply, oscillator, mode and module
+unfoldable pub unchanged : Mode → Bool → Bool → Registers → Bool
+unchanged mode modul oscillator r =
+    eqb (supplyNumber (r .supply)) (supplyNumber (supplyIn mode modul (r .«power_down_disabled»)))
+    && Bool·beq (r .oscillator) oscillator
+    && eqb (modeNumber (r .mode)) (modeNumber mode)
+    && Bool·beq (r .«module») modul
+
+-- Module lost, or a new mode other than Active and Sleep, clears control, error, erase and pending.
+unfoldable pub clears : Mode → Bool → Registers → Bool
+clears mode modul r =
+    (not modul && r .«module»)
+    || (not (eqb (modeNumber mode) (modeNumber (r .mode))) && not (eqb (modeNumber mode) 0 || eqb (modeNumber mode) 2))
+
+-- A supply change from not Normal to not Stopped sets ready to now plus 20 µs. Oscillator starting sets the three ready times anew.
+unfoldable pub environmentSet : Mode → Bool → Bool → Supply → Time → Registers → Registers
+environmentSet mode modul oscillator supply now r =
+    withSupply supply (withOscillator oscillator (withMode mode (withModule modul
+    (withReady (renewed (not (eqb (supplyNumber supply) (supplyNumber (r .supply))) && not (eqb (supplyNumber (r .supply)) 0) && not (eqb (supplyNumber supply) 2)) 20 now (r .ready))
+    (withSweReady (renewed (oscillator && not (r .oscillator)) 1 now (r .«swe_ready»))
+    (withProgramReady (renewed (oscillator && not (r .oscillator)) 50 now (r .«program_ready»))
+    (withEraseReady (renewed (oscillator && not (r .oscillator)) 100 now (r .«erase_ready»))
+    r)))))))
+
+-- `environment` with the same supply, oscillator, mode and module does nothing. Else it settles.
+unfoldable pub environment : Mode → Bool → Bool → Time → Registers → Registers
+environment mode modul oscillator now r =
+    cond (unchanged mode modul oscillator r) r
+    (environmentSet mode modul oscillator (supplyIn mode modul (r .«power_down_disabled»)) now
+    (cond (clears mode modul r) (cleared (settled now r)) (settled now r)))

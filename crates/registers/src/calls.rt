@@ -1,0 +1,112 @@
+// The calls of the ledger: what each does to the registers, whether it settles, and how a pulse that it ends has ended.
+ghost use mathlib.Core.Path.{_≡_};
+ghost use Prim.Native.Nat.{_-_, _^_, _<_};
+ghost use Rattle.registers.specs.Pulses.{isOpen};
+ghost use Rattle.registers.specs.Calls.{next, settles, setup, writesControl, ending, endingNumber};
+use crate::Call;
+use crate::Ending;
+use crate::OpenPulse;
+use crate::Registers;
+use crate::access::FENR;
+use crate::access::FLMCR1;
+use crate::control::ESU;
+use crate::control::PSU;
+use crate::control::SWE;
+use cell::Direction;
+use time::Time;
+
+fn setup(direction: Direction) -> u8
+    ensures { λ r. ⌜ r ≡ setup direction ⌝ }
+{
+    match direction {
+        Direction::Program => PSU,
+        Direction::Erase => ESU,
+    }
+}
+
+fn writes_control(call: Call) -> bool
+    ensures { λ r. ⌜ r ≡ writesControl call ⌝ }
+{
+    match call {
+        Call::WriteRegister(a, _) => a == FLMCR1,
+        Call::Write8(_, _) => false,
+        Call::Read8(_) => false,
+        Call::Read16(_) => false,
+        Call::Protect => false,
+        Call::Reset => false,
+        Call::PowerOff => false,
+        Call::Environment(_, _, _) => false,
+    }
+}
+
+// How a pulse that a call changed has ended; `control` is as the call left it.
+pub fn ending(direction: Direction, call: Call, control: u8) -> Ending
+    ensures { λ r. ⌜ r ≡ ending direction call control ⌝ }
+{
+    if writes_control(call) & (control == SWE + setup(direction)) {
+        return Ending::Completed;
+    }
+    Ending::Interrupted
+}
+
+pub fn ending_number(ending: Ending) -> u8
+    ensures { λ r. ⌜ r ≡ endingNumber ending ⌝ }
+{
+    match ending {
+        Ending::Completed => 2,
+        Ending::Interrupted => 3,
+    }
+}
+
+fn is_open(pulse: OpenPulse) -> bool
+    ensures { λ r. ⌜ r ≡ isOpen pulse ⌝ }
+{
+    match pulse {
+        OpenPulse::Closed => false,
+        OpenPulse::Open(_) => true,
+    }
+}
+
+impl Registers {
+    // The registers after an accepted call.
+    pub fn next(self, call: Call, now: Time) -> Registers
+        requires { ⌜ now .0 < 2 ^ 64 - 1 ⌝ }
+        ensures { λ r. ⌜ r ≡ next call now self ⌝ }
+    {
+        match call {
+            Call::WriteRegister(a, v) => self.write_register(a, v, now),
+            Call::Write8(a, v) => self.write8(a, v, now),
+            Call::Read8(_) => self.read8(now),
+            Call::Read16(_) => self.read16(now),
+            Call::Protect => self.protect(now),
+            Call::Reset => self.reset(now),
+            Call::PowerOff => self.power_off(now),
+            Call::Environment(mode, module, oscillator) => self.environment(
+                mode,
+                module,
+                oscillator,
+                now,
+            ),
+        }
+    }
+
+    // Whether a call settles in this state.
+    pub fn settles(self, call: Call, now: Time) -> bool
+        ensures { λ r. ⌜ r ≡ settles call now self ⌝ }
+    {
+        match call {
+            Call::WriteRegister(a, _) => !(a == FENR) & self.enabled,
+            Call::Write8(_, _) => true,
+            Call::Read8(_) => !self.normal(now),
+            Call::Read16(_) => !self.normal(now),
+            Call::Protect => is_open(self.pulse()),
+            Call::Reset => true,
+            Call::PowerOff => true,
+            Call::Environment(mode, module, oscillator) => !self.unchanged(
+                mode,
+                module,
+                oscillator,
+            ),
+        }
+    }
+}
