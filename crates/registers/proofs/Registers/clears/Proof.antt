@@ -13,7 +13,7 @@ mode-number-requires-2 c κs = search needs
 
 returns : tie.Need-returns
 unfolding clears
-returns c = cc
+returns c = rw (c .mode-number2 .ensures, c .before .before .mode-number .ensures)
 
 pub clears-spec : {M : Type 1} → statement M
 clears-spec = tie.close (tie.spec mode-number-requires mode-number-requires-2 returns)

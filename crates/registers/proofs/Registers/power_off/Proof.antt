@@ -10,7 +10,9 @@ reset-requires c κs = search needs
 
 returns : tie.Need-returns
 unfolding powerOff
-returns c = cc
+returns c =
+    let b7 = c .before .before .before .before .before .before .before in
+    rw (b7 .reset .ensures)
 
 pub power-off-spec : {M : Type 1} → statement M
 power-off-spec = tie.close (tie.spec reset-requires returns)

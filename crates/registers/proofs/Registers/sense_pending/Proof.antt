@@ -20,7 +20,12 @@ mul-t9 : tie.Need-mul-t9
 mul-t9 c = search needs
 
 returns : tie.Need-returns
-returns c = cc
+returns c =
+    let b7 = c .before .before .before .before .before .before .before in
+    let b8 = b7 .before in
+    let b9 = b8 .before in
+    let b10 = b9 .before in
+    rw (b7 .max3 .ensures, b8 .max2 .ensures, b9 .max .ensures, b10 .after .ensures)
 
 pub sense-pending-spec : {M : Type 1} → statement M
 sense-pending-spec =

@@ -14,7 +14,7 @@ supply-number-requires : tie.Need-supply-number-requires
 supply-number-requires c κs = search needs
 
 returns : tie.Need-returns
-returns c = cc
+returns c = rw (c .before .supply-number .ensures, c .before .before .reached .ensures, c .before .before .before .has .ensures)
 
 pub takes-data-spec : {M : Type 1} → statement M
 takes-data-spec = tie.close (tie.spec has-requires reached-requires supply-number-requires returns)

@@ -22,7 +22,12 @@ mode-number-requires-2 c κs = search needs
 
 returns : tie.Need-returns
 unfolding unchanged
-returns c = cc
+returns c =
+    let b2 = c .before .before in
+    let b4 = b2 .before .before in
+    let b5 = b4 .before in
+    let b6 = b5 .before in
+    rw (c .before .mode-number2 .ensures, b2 .mode-number .ensures, b4 .supply-number2 .ensures, b5 .supply-number .ensures, b6 .supply-in .ensures)
 
 pub unchanged-spec : {M : Type 1} → statement M
 unchanged-spec =

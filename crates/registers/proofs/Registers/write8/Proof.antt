@@ -13,7 +13,7 @@ data-write-requires c κs = search needs
 
 returns : tie.Need-returns
 unfolding write8
-returns c = cc
+returns c = rw (c .data-write .ensures, c .before .settled .ensures)
 
 pub write8-spec : {M : Type 1} → statement M
 write8-spec = tie.close (tie.spec settled-requires data-write-requires returns)

@@ -11,7 +11,7 @@ control-set-requires : tie.Need-control-set-requires
 control-set-requires c κs = search needs
 
 returns : tie.Need-returns
-returns c = cc
+returns c = rw (c .control-set .ensures, c .before .control-value .ensures)
 
 pub write-control-spec : {M : Type 1} → statement M
 write-control-spec = tie.close (tie.spec control-value-requires control-set-requires returns)

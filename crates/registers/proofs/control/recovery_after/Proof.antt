@@ -43,7 +43,18 @@ raised-requires-5 c κs = search needs
 
 returns : tie.Need-returns
 unfolding recoveryAfter
-returns c = cc
+returns c =
+    let b2 = c .before .before in
+    let b3 = b2 .before in
+    let b4 = b3 .before in
+    let b5 = b4 .before in
+    let b6 = b5 .before in
+    let b7 = b6 .before in
+    let b8 = b7 .before in
+    let b9 = b8 .before in
+    let b10 = b9 .before in
+    let b11 = b10 .before in
+    rw (c .raised5 .ensures, c .before .falls7 .ensures, b2 .raised4 .ensures, b3 .falls6 .ensures, b4 .raised3 .ensures, b5 .falls5 .ensures, b6 .raised2 .ensures, b7 .raised .ensures, b8 .falls4 .ensures, b9 .falls3 .ensures, b10 .falls2 .ensures, b11 .falls .ensures)
 
 pub recovery-after-spec : {M : Type 1} → statement M
 recovery-after-spec =

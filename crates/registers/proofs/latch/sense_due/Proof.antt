@@ -20,7 +20,7 @@ returns : tie.Need-returns
 returns c = search needs
 
 returns-2 : tie.Need-returns-2
-returns-2 c = cc
+returns-2 c = rw (c .supply-number .ensures, c .before .reached .ensures, c .before .before .before .pending .given .1)
 
 pub sense-due-spec : {M : Type 1} → statement M
 sense-due-spec =
