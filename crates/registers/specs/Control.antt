@@ -12,6 +12,7 @@ use Rattle.registers.specs.declared.Supply.{Supply}
 use Rattle.registers.specs.declared.Supply.the-variants.{Normal, Reduced, Stopped}
 use Rattle.registers.specs.declared.Pending.{Pending}
 use Rattle.registers.specs.declared.Pending.the-variants.{Nothing, Sense}
+use Rattle.registers.specs.Waits.{programFall, eraseFall, pvFall, evFall, sweFall, sweRise, psuRise, esuRise, pvRise, evRise, senseWait}
 use Rattle.registers.specs.Fields.{withControl, withErase, withEnabled, withPowerDownDisabled, withLatch, withPage, withSweReady, withProgramReady, withEraseReady, withRecovery, withVerifyReady, withVerifyPending}
 
 -- The registers' addresses.
@@ -78,10 +79,16 @@ supplyNumber Normal = 0
 supplyNumber Reduced = 1
 supplyNumber Stopped = 2
 
+abbrev pub isNormal : Supply → Bool
+isNormal supply = eqb (supplyNumber supply) 0
+
+abbrev pub isStopped : Supply → Bool
+isStopped supply = eqb (supplyNumber supply) 2
+
 -- A settle at or past the pending instant, not Stopped, senses, and drops the pending under any control.
 abbrev pub senseDue : Pending → Supply → Time → Bool
 senseDue Nothing supply now = false
-senseDue (Sense address at) supply now = reached now at && not (eqb (supplyNumber supply) 2)
+senseDue (Sense address at) supply now = reached now at && not (isStopped supply)
 
 -- the registers after a settle
 unfoldable pub settled : Time → Registers → Registers
@@ -127,15 +134,15 @@ renewed due n now t = cond due (after now n) t
 -- Falling bits raise recovery to at least now plus: P or PSU 5 µs, E or ESU 10, PV 2, EV 4, SWE 100.
 unfoldable pub recoveryAfter : ℕ → ℕ → Time → Time → Time
 recoveryAfter old new now t =
-    raised (falls SWE old new) 100 now
-    (raised (falls EV old new) 4 now
-    (raised (falls PV old new) 2 now
-    (raised (falls E old new || falls ESU old new) 10 now
-    (raised (falls P old new || falls PSU old new) 5 now t))))
+    raised (falls SWE old new) sweFall now
+    (raised (falls EV old new) evFall now
+    (raised (falls PV old new) pvFall now
+    (raised (falls E old new || falls ESU old new) eraseFall now
+    (raised (falls P old new || falls PSU old new) programFall now t))))
 
 -- Rising PV or EV sets verify-ready to now plus 20 if the value has EV, else 4.
 unfoldable pub verifyReadyAfter : ℕ → ℕ → Time → Time → Time
-verifyReadyAfter old new now t = renewed (rises PV old new || rises EV old new) (cond (has new EV) 20 4) now t
+verifyReadyAfter old new now t = renewed (rises PV old new || rises EV old new) (cond (has new EV) evRise pvRise) now t
 
 -- A change of P, E, PV or EV drops a pending sense.
 abbrev pub pendingAfter : ℕ → ℕ → Pending → Pending
@@ -150,9 +157,9 @@ unfoldable pub controlSet : ℕ → Time → Registers → Registers
 controlSet new now r =
     withControl new
     (withErase (eraseAfter new (r .erase))
-    (withSweReady (renewed (rises SWE (r .control) new) 1 now (r .«swe_ready»))
-    (withProgramReady (renewed (rises PSU (r .control) new) 50 now (r .«program_ready»))
-    (withEraseReady (renewed (rises ESU (r .control) new) 100 now (r .«erase_ready»))
+    (withSweReady (renewed (rises SWE (r .control) new) sweRise now (r .«swe_ready»))
+    (withProgramReady (renewed (rises PSU (r .control) new) psuRise now (r .«program_ready»))
+    (withEraseReady (renewed (rises ESU (r .control) new) esuRise now (r .«erase_ready»))
     (withRecovery (recoveryAfter (r .control) new now (r .recovery))
     (withVerifyReady (verifyReadyAfter (r .control) new now (r .«verify_ready»))
     (withVerifyPending (pendingAfter (r .control) new (r .«verify_pending»))
@@ -187,7 +194,7 @@ writeRegister a v now r =
 
 -- Ignored without SWE, before SWE-ready, with supply not Normal or the oscillator off.
 abbrev pub takesData : Time → Registers → Bool
-takesData now r = has (r .control) SWE && reached now (r .«swe_ready») && eqb (supplyNumber (r .supply)) 0 && r .oscillator
+takesData now r = has (r .control) SWE && reached now (r .«swe_ready») && isNormal (r .supply) && r .oscillator
 
 -- The byte is latched at address mod 128 and the page is the address's.
 abbrev pub latched : ℕ → ℕ → Registers → Registers
@@ -196,7 +203,7 @@ latched a v r = withLatch (set (r .latch) (a % pageBytes) v) (withPage (a / page
 -- A sense of the aligned four bytes becomes pending for the latest of now plus 2 µs, verify-ready, recovery, ready.
 abbrev pub sensePending : ℕ → Time → Registers → Registers
 sensePending a now r =
-    withVerifyPending (Sense (a / 4 * 4) (later (later (later (after now 2) (r .«verify_ready»)) (r .recovery)) (r .ready))) r
+    withVerifyPending (Sense (a / 4 * 4) (later (later (later (after now senseWait) (r .«verify_ready»)) (r .recovery)) (r .ready))) r
 
 -- With control's low four bits 0 and now at or past recovery: latched. Under PV alone or EV alone: pending. Otherwise nothing.
 unfoldable pub dataTaken : ℕ → ℕ → Time → Registers → Registers

@@ -1,5 +1,6 @@
 -- One field of the registers changed, the others as they were.
 -- Assumes nothing.
+use mathlib.Core.Path.{_≡_}
 use Prim.Native.Nat.{ℕ}
 use mathlib.Core.Bool.{Bool}
 use mathlib.Core.List.{List}
@@ -8,6 +9,12 @@ use Rattle.registers.specs.declared.Registers.{Registers}
 use Rattle.registers.specs.declared.Supply.{Supply}
 use Rattle.registers.specs.declared.Mode.{Mode}
 use Rattle.registers.specs.declared.Pending.{Pending}
+
+-- what is claimed of each: the field is what it was set to, with its own value nothing changes, and the last change counts
+pub record Changes {A : Type 0} (field : Registers → A) (put : A → Registers → Registers) : Type 0 where
+  pub sets : (x : A) (r : Registers) → field (put x r) ≡ x
+  pub keeps : (r : Registers) → put (field r) r ≡ r
+  pub lasts : (x y : A) (r : Registers) → put x (put y r) ≡ put x r
 
 abbrev pub withControl : ℕ → Registers → Registers
 withControl x r =

@@ -1,4 +1,5 @@
 pub mod Fields
+pub mod Waits
 pub mod Control
 pub mod Pulses
 pub mod Supplies

@@ -13,8 +13,9 @@ use Rattle.registers.specs.declared.Range.{Range}
 use Rattle.registers.specs.declared.Pulse.{Pulse}
 use Rattle.registers.specs.declared.OpenPulse.{OpenPulse}
 use Rattle.registers.specs.declared.OpenPulse.the-variants.{Closed, Open}
+use Rattle.registers.specs.Waits.{programFall, eraseFall}
 use Rattle.registers.specs.Fields.{withError, withRecovery}
-use Rattle.registers.specs.Control.{SWE, ESU, PSU, E, P, has, low, reached, supplyNumber, settled}
+use Rattle.registers.specs.Control.{SWE, ESU, PSU, E, P, has, low, reached, isNormal, isStopped, settled}
 
 -- the pages from one address to the last byte of another
 abbrev pub block : ℕ → ℕ → Range
@@ -52,7 +53,7 @@ erasePulse r =
 -- A pulse is open if no error, oscillator on, supply Normal, SWE set, and the low four bits are P alone with PSU (the latched
 -- page) or E alone with ESU.
 abbrev pub powered : Registers → Bool
-powered r = not (r .error) && r .oscillator && eqb (supplyNumber (r .supply)) 0 && has (r .control) SWE
+powered r = not (r .error) && r .oscillator && isNormal (r .supply) && has (r .control) SWE
 
 unfoldable pub pulse : Registers → OpenPulse
 pulse r =
@@ -69,12 +70,12 @@ isOpen (Open p) = true
 -- Normal reading: with control's low six bits 0, supply not Stopped and now at or past ready and recovery.
 unfoldable pub normal : Time → Registers → Bool
 normal now r =
-    eqb (r .control % 64) 0 && not (eqb (supplyNumber (r .supply)) 2) && reached now (r .ready) && reached now (r .recovery)
+    eqb (r .control % 64) 0 && not (isStopped (r .supply)) && reached now (r .ready) && reached now (r .recovery)
 
 -- An open pulse trips protection: error, recovery 5 µs (erase 10).
 abbrev pub tripWait : Direction → ℕ
-tripWait Program = 5
-tripWait Erase = 10
+tripWait Program = programFall
+tripWait Erase = eraseFall
 
 abbrev pub tripped : OpenPulse → Time → Registers → Registers
 tripped Closed now r = r

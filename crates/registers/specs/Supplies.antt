@@ -13,8 +13,9 @@ use Rattle.registers.specs.declared.Mode.the-variants.{Active, Subactive
 use Rattle.registers.specs.declared.Supply.{Supply}
 use Rattle.registers.specs.declared.Supply.the-variants.{Normal, Reduced, Stopped}
 use Rattle.registers.specs.declared.Pending.the-variants.{Nothing}
+use Rattle.registers.specs.Waits.{sweRise, psuRise, esuRise, supplyWait}
 use Rattle.registers.specs.Fields.{withControl, withError, withErase, withEnabled, withPowerDownDisabled, withLatch, withPage, withSupply, withOscillator, withMode, withModule, withReady, withSweReady, withProgramReady, withEraseReady, withRecovery, withVerifyPending}
-use Rattle.registers.specs.Control.{supplyNumber, renewed, settled}
+use Rattle.registers.specs.Control.{supplyNumber, isNormal, isStopped, renewed, settled}
 
 -- Modes 0 to 5: Active, Subactive, Sleep, Subsleep, Watch, Standby.
 abbrev pub modeNumber : Mode → ℕ
@@ -75,28 +76,46 @@ fresh =
 
 -- ---- environment
 
+-- the same supply, the same mode
+abbrev pub sameSupply : Supply → Supply → Bool
+sameSupply a b = eqb (supplyNumber a) (supplyNumber b)
+
+abbrev pub sameMode : Mode → Mode → Bool
+sameMode a b = eqb (modeNumber a) (modeNumber b)
+
 -- the same supply, oscillator, mode and module
 unfoldable pub unchanged : Mode → Bool → Bool → Registers → Bool
 unchanged mode modul oscillator r =
-    eqb (supplyNumber (r .supply)) (supplyNumber (supplyIn mode modul (r .«power_down_disabled»)))
+    sameSupply (r .supply) (supplyIn mode modul (r .«power_down_disabled»))
     && Bool·beq (r .oscillator) oscillator
-    && eqb (modeNumber (r .mode)) (modeNumber mode)
+    && sameMode (r .mode) mode
     && Bool·beq (r .«module») modul
 
 -- Module lost, or a new mode other than Active and Sleep, clears control, error, erase and pending.
 unfoldable pub clears : Mode → Bool → Registers → Bool
 clears mode modul r =
     (not modul && r .«module»)
-    || (not (eqb (modeNumber mode) (modeNumber (r .mode))) && not (eqb (modeNumber mode) 0 || eqb (modeNumber mode) 2))
+    || (not (sameMode mode (r .mode)) && not (eqb (modeNumber mode) 0 || eqb (modeNumber mode) 2))
+
+-- a supply change from not Normal to not Stopped
+abbrev pub supplied : Supply → Supply → Bool
+supplied new old = not (sameSupply new old) && not (isNormal old) && not (isStopped new)
+
+-- oscillator starting
+abbrev pub starts : Bool → Bool → Bool
+starts new old = new && not old
 
 -- A supply change from not Normal to not Stopped sets ready to now plus 20 µs. Oscillator starting sets the three ready times anew.
 unfoldable pub environmentSet : Mode → Bool → Bool → Supply → Time → Registers → Registers
 environmentSet mode modul oscillator supply now r =
-    withSupply supply (withOscillator oscillator (withMode mode (withModule modul
-    (withReady (renewed (not (eqb (supplyNumber supply) (supplyNumber (r .supply))) && not (eqb (supplyNumber (r .supply)) 0) && not (eqb (supplyNumber supply) 2)) 20 now (r .ready))
-    (withSweReady (renewed (oscillator && not (r .oscillator)) 1 now (r .«swe_ready»))
-    (withProgramReady (renewed (oscillator && not (r .oscillator)) 50 now (r .«program_ready»))
-    (withEraseReady (renewed (oscillator && not (r .oscillator)) 100 now (r .«erase_ready»))
+    withSupply supply
+    (withOscillator oscillator
+    (withMode mode
+    (withModule modul
+    (withReady (renewed (supplied supply (r .supply)) supplyWait now (r .ready))
+    (withSweReady (renewed (starts oscillator (r .oscillator)) sweRise now (r .«swe_ready»))
+    (withProgramReady (renewed (starts oscillator (r .oscillator)) psuRise now (r .«program_ready»))
+    (withEraseReady (renewed (starts oscillator (r .oscillator)) esuRise now (r .«erase_ready»))
     r)))))))
 
 -- `environment` with the same supply, oscillator, mode and module does nothing. Else it settles.

@@ -4,6 +4,16 @@ ghost use Prim.Native.Nat.{_-_, _^_, _<_};
 ghost use Rattle.registers.specs.Control.{has, falls, raised, renewed, controlValue, recoveryAfter, verifyReadyAfter, eraseAfter, pendingAfter, controlSet};
 use crate::Pending;
 use crate::Registers;
+use crate::waits::ERASE_FALL;
+use crate::waits::ESU_RISE;
+use crate::waits::EV_FALL;
+use crate::waits::EV_RISE;
+use crate::waits::PROGRAM_FALL;
+use crate::waits::PSU_RISE;
+use crate::waits::PV_FALL;
+use crate::waits::PV_RISE;
+use crate::waits::SWE_FALL;
+use crate::waits::SWE_RISE;
 use time::Time;
 
 pub const SWE: u8 = 0x40;
@@ -66,11 +76,11 @@ fn recovery_after(old: u8, new: u8, now: Time, t: Time) -> Time
 {
     let program = falls(P, old, new) | falls(PSU, old, new);
     let erase = falls(E, old, new) | falls(ESU, old, new);
-    let a = raised(program, 5, now, t);
-    let b = raised(erase, 10, now, a);
-    let c = raised(falls(PV, old, new), 2, now, b);
-    let d = raised(falls(EV, old, new), 4, now, c);
-    raised(falls(SWE, old, new), 100, now, d)
+    let a = raised(program, PROGRAM_FALL, now, t);
+    let b = raised(erase, ERASE_FALL, now, a);
+    let c = raised(falls(PV, old, new), PV_FALL, now, b);
+    let d = raised(falls(EV, old, new), EV_FALL, now, c);
+    raised(falls(SWE, old, new), SWE_FALL, now, d)
 }
 
 // The verify-ready instant after control goes from `old` to `new`.
@@ -80,9 +90,9 @@ fn verify_ready_after(old: u8, new: u8, now: Time, t: Time) -> Time
 {
     let due = falls(PV, new, old) | falls(EV, new, old);
     if has(new, EV) {
-        renewed(due, 20, now, t)
+        renewed(due, EV_RISE, now, t)
     } else {
-        renewed(due, 4, now, t)
+        renewed(due, PV_RISE, now, t)
     }
 }
 
@@ -112,9 +122,9 @@ impl Registers {
     {
         let old = self.control;
         let recovery = recovery_after(old, new, now, self.recovery);
-        let swe_ready = renewed(falls(SWE, new, old), 1, now, self.swe_ready);
-        let program_ready = renewed(falls(PSU, new, old), 50, now, self.program_ready);
-        let erase_ready = renewed(falls(ESU, new, old), 100, now, self.erase_ready);
+        let swe_ready = renewed(falls(SWE, new, old), SWE_RISE, now, self.swe_ready);
+        let program_ready = renewed(falls(PSU, new, old), PSU_RISE, now, self.program_ready);
+        let erase_ready = renewed(falls(ESU, new, old), ESU_RISE, now, self.erase_ready);
         let verify_ready = verify_ready_after(old, new, now, self.verify_ready);
         let erase = erase_after(new, self.erase);
         let pending = self.verify_pending;

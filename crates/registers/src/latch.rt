@@ -11,6 +11,7 @@ use crate::control::PV;
 use crate::control::SWE;
 use crate::control::has;
 use crate::supplies::supply_number;
+use crate::waits::SENSE;
 use time::Time;
 
 // Whether a pending sense is due at a settle.
@@ -66,7 +67,7 @@ impl Registers {
         requires { ⌜ now .0 < 2 ^ 64 - 1 ⌝ }
         ensures { λ r. ⌜ r ≡ sensePending address now self ⌝ }
     {
-        let at = now.after(2)
+        let at = now.after(SENSE)
             .max(self.verify_ready)
             .max(self.recovery)
             .max(self.ready);

@@ -6,6 +6,7 @@ pub mod control;
 pub mod latch;
 pub mod pulses;
 pub mod supplies;
+pub mod waits;
 
 use cell::Direction;
 use cell::PAGE;

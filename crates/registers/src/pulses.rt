@@ -14,6 +14,8 @@ use crate::control::PSU;
 use crate::control::SWE;
 use crate::control::has;
 use crate::supplies::supply_number;
+use crate::waits::ERASE_FALL;
+use crate::waits::PROGRAM_FALL;
 use cell::Direction;
 use time::Time;
 
@@ -49,8 +51,8 @@ fn trip_wait(direction: Direction) -> u64
     ensures { λ r. ⌜ r ≡ tripWait direction ⌝ }
 {
     match direction {
-        Direction::Program => 5,
-        Direction::Erase => 10,
+        Direction::Program => PROGRAM_FALL,
+        Direction::Erase => ERASE_FALL,
     }
 }
 

@@ -8,6 +8,10 @@ use crate::Pending;
 use crate::Registers;
 use crate::Supply;
 use crate::control::renewed;
+use crate::waits::ESU_RISE;
+use crate::waits::PSU_RISE;
+use crate::waits::SUPPLY_CHANGE;
+use crate::waits::SWE_RISE;
 use cell::PAGE;
 use time::Time;
 
@@ -91,15 +95,13 @@ impl Registers {
     pub fn reset(self, now: Time) -> Registers
         ensures { λ r. ⌜ r ≡ reset now self ⌝ }
     {
-        let r = self.settled(now).cleared();
-        Registers {
-            enabled: false,
-            power_down_disabled: false,
-            latch: [0xffu8; PAGE],
-            page: 0,
-            recovery: now,
-            ..r
-        }
+        let mut r = self.settled(now).cleared();
+        r.enabled = false;
+        r.power_down_disabled = false;
+        r.latch = [0xffu8; PAGE];
+        r.page = 0;
+        r.recovery = now;
+        r
     }
 
     pub fn power_off(self, now: Time) -> Registers
@@ -152,15 +154,11 @@ impl Registers {
         let old = supply_number(was);
         let new = supply_number(supply);
         let starts = oscillator & !self.oscillator;
-        let ready = renewed(
-            !(new == old) & !(old == 0) & !(new == 2),
-            20,
-            now,
-            self.ready,
-        );
-        let swe_ready = renewed(starts, 1, now, self.swe_ready);
-        let program_ready = renewed(starts, 50, now, self.program_ready);
-        let erase_ready = renewed(starts, 100, now, self.erase_ready);
+        let supplied = !(new == old) & !(old == 0) & !(new == 2);
+        let ready = renewed(supplied, SUPPLY_CHANGE, now, self.ready);
+        let swe_ready = renewed(starts, SWE_RISE, now, self.swe_ready);
+        let program_ready = renewed(starts, PSU_RISE, now, self.program_ready);
+        let erase_ready = renewed(starts, ESU_RISE, now, self.erase_ready);
         Registers {
             supply: supply,
             oscillator: oscillator,

@@ -13,10 +13,7 @@ cleared-requires c κs = search needs
 
 returns : tie.Need-returns
 unfolding reset blankLatch
-returns c =
-    let b5 = c .before .before .before .before .before in
-    let b6 = b5 .before in
-    rw (b5 .cleared .ensures, b6 .settled .ensures)
+returns c = rw (c .before .cleared .ensures, c .before .before .settled .ensures)
 
 pub reset-spec : {M : Type 1} → statement M
 reset-spec = tie.close (tie.spec settled-requires cleared-requires returns)
