@@ -10,17 +10,21 @@ use lib.Dec.{eqb}
 use borrow.Author.Tests.{eqb-true, not-false}
 use Rattle.time.specs.declared.Time.{Time}
 use Rattle.registers.specs.declared.Registers.{Registers}
-use Rattle.registers.specs.declared.Mode.{Mode}
-use Rattle.registers.specs.declared.Pending.the-variants.{Nothing}
+use Rattle.control.specs.declared.Mode.{Mode}
+use Rattle.control.specs.declared.Pending.the-variants.{Nothing}
 use Rattle.registers.specs.declared.Pulse.{Pulse}
 use Rattle.registers.specs.declared.OpenPulse.{OpenPulse}
 use Rattle.registers.specs.declared.OpenPulse.the-variants.{Closed, Open}
 use Rattle.registers.specs.declared.Call.{Call}
 use Rattle.registers.specs.declared.Call.the-variants.{WriteRegister, Write8, Read8, Read16, Protect, Reset, PowerOff, Environment}
 use Rattle.registers.specs.Fields.{withEnabled, withVerifyPending}
-use Rattle.registers.specs.Control.{FENR, FLMCR1, FLPWCR, EBR1, FLAG, SWE, has, low, verifies, reached, senseDue, latched, sensePending, takesData, settled, registerSet, writeRegister, controlSet, dataTaken, dataWrite, write8}
+use Rattle.control.specs.Bits.{FENR, FLMCR1, FLPWCR, EBR1, FLAG, SWE, has, low, verifies}
+use Rattle.control.specs.Waits.{reached}
+use Rattle.control.specs.Verify.{senseDue}
+use Rattle.registers.specs.Latch.{latched, sensePending, takesData, dataTaken, dataWrite, write8}
+use Rattle.registers.specs.Access.{settled, registerSet, writeRegister, controlSet}
 use Rattle.registers.specs.Pulses.{powered, pulse, isOpen, normal, tripped, protect, read8, read16}
-use Rattle.registers.specs.Supplies.{unchanged, clears, reset, powerOff, environmentSet, environment}
+use Rattle.registers.specs.Environment.{unchanged, clears, reset, powerOff, environmentSet, environment}
 use Rattle.registers.specs.Calls.{settles, next}
 
 -- a test between a value and itself

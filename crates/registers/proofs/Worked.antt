@@ -7,8 +7,9 @@ use Prim.Native.Nat.{ℕ}
 use Rattle.time.specs.declared.Time.{Time}
 use Rattle.cell.specs.Cell.{classOf, limitOf, exposed, moved}
 use Rattle.registers.specs.declared.Registers.{Registers}
-use Rattle.registers.specs.Control.{EBR1, SWE, has, eraseValue, settled, registerSet, writeRegister}
-use Rattle.registers.specs.Pulses.{eraseRange}
+use Rattle.control.specs.Bits.{EBR1, SWE, has, eraseValue}
+use Rattle.registers.specs.Access.{settled, registerSet, writeRegister}
+use Rattle.control.specs.Blocks.{eraseRange}
 use Rattle.registers.specs.Worked.{Worked}
 use Rattle.registers.proofs.Laws.{settled-fields}
 use Rattle.registers.proofs.Tests.{cond-yes}

@@ -1,20 +1,21 @@
 -- The calls of the ledger, and the register rules of each: what it does to the registers, whether it settles, how a pulse that it
--- ends has ended. Document 01, "The ledger".
+-- ends has ended. Document 01, "The ledger" and "Pulses and settling".
 -- Assumes nothing.
-use Prim.Native.Nat.{ℕ, _+_, _%_}
+use Prim.Native.Nat.{ℕ, _+_}
 use mathlib.Core.Bool.{Bool, true, false, cond, not, _&&_}
 use lib.Dec.{eqb}
 use Rattle.time.specs.declared.Time.{Time}
 use Rattle.cell.specs.declared.Direction.{Direction}
-use Rattle.cell.specs.declared.Direction.the-variants.{Program, Erase}
+use Rattle.control.specs.Bits.{FENR, FLMCR1, SWE, setup}
 use Rattle.registers.specs.declared.Registers.{Registers}
 use Rattle.registers.specs.declared.Call.{Call}
 use Rattle.registers.specs.declared.Call.the-variants.{WriteRegister, Write8, Read8, Read16, Protect, Reset, PowerOff, Environment}
 use Rattle.registers.specs.declared.Ending.{Ending}
 use Rattle.registers.specs.declared.Ending.the-variants.{Completed, Interrupted}
-use Rattle.registers.specs.Control.{FENR, FLMCR1, SWE, PSU, ESU, writeRegister, write8}
+use Rattle.registers.specs.Access.{writeRegister}
+use Rattle.registers.specs.Latch.{write8}
 use Rattle.registers.specs.Pulses.{pulse, isOpen, normal, protect, read8, read16}
-use Rattle.registers.specs.Supplies.{reset, powerOff, environment, unchanged}
+use Rattle.registers.specs.Environment.{reset, powerOff, environment, unchanged}
 
 -- the registers after an accepted call
 unfoldable pub next : Call → Time → Registers → Registers
@@ -38,11 +39,7 @@ settles Reset now r = true
 settles PowerOff now r = true
 settles (Environment mode modul oscillator) now r = not (unchanged mode modul oscillator r)
 
--- the setup bit that matches a pulse's direction
-abbrev pub setup : Direction → ℕ
-setup Program = PSU
-setup Erase = ESU
-
+-- whether a call writes F020
 abbrev pub writesControl : Call → Bool
 writesControl (WriteRegister a v) = eqb a FLMCR1
 writesControl (Write8 a v) = false

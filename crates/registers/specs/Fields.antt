@@ -6,9 +6,9 @@ use mathlib.Core.Bool.{Bool}
 use mathlib.Core.List.{List}
 use Rattle.time.specs.declared.Time.{Time}
 use Rattle.registers.specs.declared.Registers.{Registers}
-use Rattle.registers.specs.declared.Supply.{Supply}
-use Rattle.registers.specs.declared.Mode.{Mode}
-use Rattle.registers.specs.declared.Pending.{Pending}
+use Rattle.control.specs.declared.Supply.{Supply}
+use Rattle.control.specs.declared.Mode.{Mode}
+use Rattle.control.specs.declared.Pending.{Pending}
 
 -- what is claimed of each: the field is what it was set to, with its own value nothing changes, and the last change counts
 pub record Changes {A : Type 0} (field : Registers → A) (put : A → Registers → Registers) : Type 0 where

@@ -1,7 +1,7 @@
 pub mod Fields
-pub mod Waits
-pub mod Control
+pub mod Access
+pub mod Latch
 pub mod Pulses
-pub mod Supplies
+pub mod Environment
 pub mod Calls
 pub mod Worked

@@ -1,37 +1,22 @@
 -- Pulses: which is open, when reading is normal, and what protection does. Document 01, "Pulses and settling".
 -- Assumes nothing.
-use Prim.Native.Nat.{ℕ, _+_, _-_, _/_, _%_}
+use Prim.Native.Nat.{ℕ, _/_, _%_}
 use mathlib.Core.Bool.{Bool, true, false, cond, not, _&&_}
 use lib.Dec.{eqb}
 use Rattle.time.specs.declared.Time.{Time}
 use Rattle.time.specs.Raw.{later, after}
-use Rattle.cell.specs.declared.Direction.{Direction}
 use Rattle.cell.specs.declared.Direction.the-variants.{Program, Erase}
 use Rattle.cell.specs.Cell.{pageBytes}
+use Rattle.control.specs.Bits.{SWE, ESU, PSU, E, P, has, low}
+use Rattle.control.specs.Waits.{reached, tripWait}
+use Rattle.control.specs.Supplies.{isNormal, isStopped}
+use Rattle.control.specs.Blocks.{eraseRange}
 use Rattle.registers.specs.declared.Registers.{Registers}
-use Rattle.registers.specs.declared.Range.{Range}
 use Rattle.registers.specs.declared.Pulse.{Pulse}
 use Rattle.registers.specs.declared.OpenPulse.{OpenPulse}
 use Rattle.registers.specs.declared.OpenPulse.the-variants.{Closed, Open}
-use Rattle.registers.specs.Waits.{programFall, eraseFall}
 use Rattle.registers.specs.Fields.{withError, withRecovery}
-use Rattle.registers.specs.Control.{SWE, ESU, PSU, E, P, has, low, reached, isNormal, isStopped, settled}
-
--- the pages from one address to the last byte of another
-abbrev pub block : ℕ → ℕ → Range
-block from to = record { first = from / pageBytes; pages = (to + 1 - from) / pageBytes }
-
--- The erase register selects one of six ranges or none: 1, 2, 4, 8 the first four 1 KiB blocks; 16 is 1000 to 7FFF hex;
--- 32 is 8000 to BFFF hex.
-unfoldable pub eraseRange : ℕ → Range
-eraseRange e =
-    cond (eqb e 1) (block 0x0000 0x03FF)
-    (cond (eqb e 2) (block 0x0400 0x07FF)
-    (cond (eqb e 4) (block 0x0800 0x0BFF)
-    (cond (eqb e 8) (block 0x0C00 0x0FFF)
-    (cond (eqb e 16) (block 0x1000 0x7FFF)
-    (cond (eqb e 32) (block 0x8000 0xBFFF)
-    (record { first = 0; pages = 0 }))))))
+use Rattle.registers.specs.Access.{settled}
 
 -- A pulse's ready instant: the latest of its own ready, SWE-ready, ready and recovery.
 abbrev pub readyFor : Time → Registers → Time
@@ -73,10 +58,6 @@ normal now r =
     eqb (r .control % 64) 0 && not (isStopped (r .supply)) && reached now (r .ready) && reached now (r .recovery)
 
 -- An open pulse trips protection: error, recovery 5 µs (erase 10).
-abbrev pub tripWait : Direction → ℕ
-tripWait Program = programFall
-tripWait Erase = eraseFall
-
 abbrev pub tripped : OpenPulse → Time → Registers → Registers
 tripped Closed now r = r
 tripped (Open p) now r = withError true (withRecovery (later (r .recovery) (after now (tripWait (p .direction)))) r)

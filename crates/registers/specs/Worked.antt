@@ -7,9 +7,10 @@ use Rattle.time.specs.declared.Time.{Time}
 use Rattle.cell.specs.declared.Sense.the-variants.{Normal, ProgramVerify, EraseVerify}
 use Rattle.cell.specs.declared.Direction.the-variants.{Program, Erase}
 use Rattle.cell.specs.Cell.{FULL, classOf, limitOf, exposed}
+use Rattle.control.specs.Bits.{EBR1, SWE, has}
+use Rattle.control.specs.Blocks.{eraseRange}
 use Rattle.registers.specs.declared.Registers.{Registers}
-use Rattle.registers.specs.Control.{EBR1, SWE, has, writeRegister}
-use Rattle.registers.specs.Pulses.{eraseRange}
+use Rattle.registers.specs.Access.{writeRegister}
 
 pub record Worked : Type 0 where
   -- class of cells 0, 1, 7, 16: 0, 13, 11, 1

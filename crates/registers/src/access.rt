@@ -1,46 +1,28 @@
 // Reading and writing registers by their addresses.
 ghost use mathlib.Core.Path.{_≡_};
-ghost use Prim.Native.Nat.{_-_, _^_, _<_};
-ghost use Rattle.registers.specs.Control.{flag, register, eraseValue, registerSet, writeRegister};
+ghost use Rattle.time.specs.Raw.{beforeLastSecond};
+ghost use Rattle.control.specs.Bits.{controlValue};
+ghost use Rattle.registers.specs.Access.{register, controlSet, registerSet, writeRegister};
 use crate::Registers;
-use crate::control::SWE;
-use crate::control::has;
+use control::bits::ESU;
+use control::bits::FENR;
+use control::bits::FLAG;
+use control::bits::PSU;
+use control::bits::SWE;
+use control::bits::control_value;
+use control::bits::erase_after;
+use control::bits::erase_value;
+use control::bits::falls;
+use control::bits::flag;
+use control::bits::has;
+use control::verify::pending_after;
+use control::waits::ESU_RISE;
+use control::waits::PSU_RISE;
+use control::waits::SWE_RISE;
+use control::waits::recovery_after;
+use control::waits::renewed;
+use control::waits::verify_ready_after;
 use time::Time;
-
-pub const FLMCR1: u16 = 0xf020;
-
-pub const FLMCR2: u16 = 0xf021;
-
-pub const FLPWCR: u16 = 0xf022;
-
-pub const EBR1: u16 = 0xf023;
-
-pub const FENR: u16 = 0xf02b;
-
-// Bit 7 of the flag registers.
-const FLAG: u8 = 0x80;
-
-// A flag as its register's bit 7.
-fn flag(b: bool) -> u8
-    ensures { λ r. ⌜ r ≡ flag b ⌝ }
-{
-    if b { FLAG } else { 0 }
-}
-
-// What a write to F023 stores: one bit or none.
-fn erase_value(v: u8) -> u8
-    ensures { λ r. ⌜ r ≡ eraseValue v ⌝ }
-{
-    let count = v / 1 % 2
-        + v / 2 % 2
-        + v / 4 % 2
-        + v / 8 % 2
-        + v / 16 % 2
-        + v / 32 % 2
-        + v / 64 % 2
-        + v / 128 % 2;
-    if count <= 1 { v } else { 0 }
-}
 
 impl Registers {
     pub fn register(self, address: u16) -> u8
@@ -62,9 +44,44 @@ impl Registers {
         }
     }
 
+    // Control becomes `new`, with all that follows from it.
+    fn control_set(self, new: u8, now: Time) -> Registers
+        requires { ⌜ beforeLastSecond now ⌝ }
+        ensures { λ r. ⌜ r ≡ controlSet new now self ⌝ }
+    {
+        let old = self.control;
+        let recovery = recovery_after(old, new, now, self.recovery);
+        let swe_ready = renewed(falls(SWE, new, old), SWE_RISE, now, self.swe_ready);
+        let program_ready = renewed(falls(PSU, new, old), PSU_RISE, now, self.program_ready);
+        let erase_ready = renewed(falls(ESU, new, old), ESU_RISE, now, self.erase_ready);
+        let verify_ready = verify_ready_after(old, new, now, self.verify_ready);
+        let erase = erase_after(new, self.erase);
+        let pending = self.verify_pending;
+        let kept = pending_after(old, new, pending);
+        Registers {
+            control: new,
+            erase: erase,
+            swe_ready: swe_ready,
+            program_ready: program_ready,
+            erase_ready: erase_ready,
+            recovery: recovery,
+            verify_ready: verify_ready,
+            verify_pending: kept,
+            ..self
+        }
+    }
+
+    // Writing F020.
+    pub fn write_control(self, value: u8, now: Time) -> Registers
+        requires { ⌜ beforeLastSecond now ⌝ }
+        ensures { λ r. ⌜ r ≡ controlSet (controlValue value) now self ⌝ }
+    {
+        self.control_set(control_value(value), now)
+    }
+
     // A write to a register other than F02B, once it has settled.
     fn register_set(self, address: u16, value: u8, now: Time) -> Registers
-        requires { ⌜ now .0 < 2 ^ 64 - 1 ⌝ }
+        requires { ⌜ beforeLastSecond now ⌝ }
         ensures { λ r. ⌜ r ≡ registerSet address value now self ⌝ }
     {
         match address {
@@ -87,7 +104,7 @@ impl Registers {
     }
 
     pub fn write_register(self, address: u16, value: u8, now: Time) -> Registers
-        requires { ⌜ now .0 < 2 ^ 64 - 1 ⌝ }
+        requires { ⌜ beforeLastSecond now ⌝ }
         ensures { λ r. ⌜ r ≡ writeRegister address value now self ⌝ }
     {
         if address == FENR {

@@ -1,28 +1,18 @@
 // The calls of the ledger: what each does to the registers, whether it settles, and how a pulse that it ends has ended.
 ghost use mathlib.Core.Path.{_≡_};
-ghost use Prim.Native.Nat.{_-_, _^_, _<_};
+ghost use Rattle.time.specs.Raw.{beforeLastSecond};
 ghost use Rattle.registers.specs.Pulses.{isOpen};
-ghost use Rattle.registers.specs.Calls.{next, settles, setup, writesControl, ending, endingNumber};
+ghost use Rattle.registers.specs.Calls.{next, settles, writesControl, ending, endingNumber};
 use crate::Call;
 use crate::Ending;
 use crate::OpenPulse;
 use crate::Registers;
-use crate::access::FENR;
-use crate::access::FLMCR1;
-use crate::control::ESU;
-use crate::control::PSU;
-use crate::control::SWE;
 use cell::Direction;
+use control::bits::FENR;
+use control::bits::FLMCR1;
+use control::bits::SWE;
+use control::bits::setup;
 use time::Time;
-
-fn setup(direction: Direction) -> u8
-    ensures { λ r. ⌜ r ≡ setup direction ⌝ }
-{
-    match direction {
-        Direction::Program => PSU,
-        Direction::Erase => ESU,
-    }
-}
 
 fn writes_control(call: Call) -> bool
     ensures { λ r. ⌜ r ≡ writesControl call ⌝ }
@@ -70,7 +60,7 @@ fn is_open(pulse: OpenPulse) -> bool
 impl Registers {
     // The registers after an accepted call.
     pub fn next(self, call: Call, now: Time) -> Registers
-        requires { ⌜ now .0 < 2 ^ 64 - 1 ⌝ }
+        requires { ⌜ beforeLastSecond now ⌝ }
         ensures { λ r. ⌜ r ≡ next call now self ⌝ }
     {
         match call {

@@ -1,28 +1,19 @@
-// The data write: a byte for the latch, or the start of a verify sense.
+// Settling, and the data write: a byte for the latch, or the start of a verify sense.
 ghost use mathlib.Core.Path.{_≡_};
-ghost use Prim.Native.Nat.{_-_, _^_, _<_};
-ghost use Rattle.registers.specs.Control.{senseDue, settled, takesData, latched, sensePending, dataTaken, dataWrite, write8};
+ghost use Rattle.time.specs.Raw.{beforeLastSecond};
+ghost use Rattle.registers.specs.Access.{settled};
+ghost use Rattle.registers.specs.Latch.{takesData, latched, sensePending, dataTaken, dataWrite, write8};
 use crate::PAGE_BYTES;
-use crate::Pending;
 use crate::Registers;
-use crate::Supply;
-use crate::control::EV;
-use crate::control::PV;
-use crate::control::SWE;
-use crate::control::has;
-use crate::supplies::supply_number;
-use crate::waits::SENSE;
+use control::Pending;
+use control::bits::EV;
+use control::bits::PV;
+use control::bits::SWE;
+use control::bits::has;
+use control::supplies::supply_number;
+use control::verify::sense_due;
+use control::waits::SENSE;
 use time::Time;
-
-// Whether a pending sense is due at a settle.
-pub fn sense_due(pending: Pending, supply: Supply, now: Time) -> bool
-    ensures { λ r. ⌜ r ≡ senseDue pending supply now ⌝ }
-{
-    match pending {
-        Pending::Nothing => false,
-        Pending::Sense(_, at) => now.reached(at) & !(supply_number(supply) == 2),
-    }
-}
 
 impl Registers {
     // The registers after a settle: a sense that is due is no longer pending.
@@ -64,7 +55,7 @@ impl Registers {
 
     // A sense of the aligned four bytes becomes pending.
     fn sense_pending(self, address: u16, now: Time) -> Registers
-        requires { ⌜ now .0 < 2 ^ 64 - 1 ⌝ }
+        requires { ⌜ beforeLastSecond now ⌝ }
         ensures { λ r. ⌜ r ≡ sensePending address now self ⌝ }
     {
         let at = now.after(SENSE)
@@ -78,7 +69,7 @@ impl Registers {
     }
 
     fn data_taken(self, address: u16, value: u8, now: Time) -> Registers
-        requires { ⌜ now .0 < 2 ^ 64 - 1 ⌝ }
+        requires { ⌜ beforeLastSecond now ⌝ }
         ensures { λ r. ⌜ r ≡ dataTaken address value now self ⌝ }
     {
         let low = self.control % 16;
@@ -93,7 +84,7 @@ impl Registers {
 
     // A data write, once it has settled.
     fn data_write(self, address: u16, value: u8, now: Time) -> Registers
-        requires { ⌜ now .0 < 2 ^ 64 - 1 ⌝ }
+        requires { ⌜ beforeLastSecond now ⌝ }
         ensures { λ r. ⌜ r ≡ dataWrite address value now self ⌝ }
     {
         if self.takes_data(now) {
@@ -103,7 +94,7 @@ impl Registers {
     }
 
     pub fn write8(self, address: u16, value: u8, now: Time) -> Registers
-        requires { ⌜ now .0 < 2 ^ 64 - 1 ⌝ }
+        requires { ⌜ beforeLastSecond now ⌝ }
         ensures { λ r. ⌜ r ≡ write8 address value now self ⌝ }
     {
         self.settled(now).data_write(address, value, now)

@@ -2,41 +2,19 @@
 // and the ledger share these rules.
 pub mod access;
 pub mod calls;
-pub mod control;
+pub mod environment;
 pub mod latch;
 pub mod pulses;
-pub mod supplies;
-pub mod waits;
 
 use cell::Direction;
 use cell::PAGE;
+use control::Mode;
+use control::Pending;
+use control::Supply;
 use time::Time;
 
 // Bytes of a page, as an address has them.
 const PAGE_BYTES: u16 = PAGE as u16;
-
-// The controller's modes, 0 to 5.
-pub enum Mode {
-    Active,
-    Subactive,
-    Sleep,
-    Subsleep,
-    Watch,
-    Standby,
-}
-
-// The array's supply, 0 to 2.
-pub enum Supply {
-    Normal,
-    Reduced,
-    Stopped,
-}
-
-// A verify sense of four bytes, due at an instant.
-pub enum Pending {
-    Nothing,
-    Sense(u16, Time),
-}
 
 pub struct Registers {
     pub control: u8,
@@ -57,12 +35,6 @@ pub struct Registers {
     pub recovery: Time,
     pub verify_ready: Time,
     pub verify_pending: Pending,
-}
-
-// Pages from the first on.
-pub struct Range {
-    pub first: u16,
-    pub pages: u16,
 }
 
 // A pulse is its direction, range and ready instant.

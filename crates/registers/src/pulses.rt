@@ -1,60 +1,22 @@
 // The open pulse, normal reading, and protection.
 ghost use mathlib.Core.Path.{_≡_};
-ghost use Prim.Native.Nat.{_-_, _^_, _<_};
-ghost use Rattle.registers.specs.Pulses.{eraseRange, readyFor, programPulse, erasePulse, powered, pulse, isOpen, normal, tripWait, tripped, protect, read8, read16};
+ghost use Rattle.time.specs.Raw.{beforeLastSecond};
+ghost use Rattle.registers.specs.Pulses.{readyFor, programPulse, erasePulse, powered, pulse, normal, tripped, protect, read8, read16};
 use crate::OpenPulse;
 use crate::PAGE_BYTES;
 use crate::Pulse;
-use crate::Range;
 use crate::Registers;
-use crate::control::E;
-use crate::control::ESU;
-use crate::control::P;
-use crate::control::PSU;
-use crate::control::SWE;
-use crate::control::has;
-use crate::supplies::supply_number;
-use crate::waits::ERASE_FALL;
-use crate::waits::PROGRAM_FALL;
 use cell::Direction;
+use control::bits::E;
+use control::bits::ESU;
+use control::bits::P;
+use control::bits::PSU;
+use control::bits::SWE;
+use control::bits::has;
+use control::blocks::erase_range;
+use control::supplies::supply_number;
+use control::waits::trip_wait;
 use time::Time;
-
-// The range that the erase register selects.
-pub fn erase_range(erase: u8) -> Range
-    ensures { λ r. ⌜ r ≡ eraseRange erase ⌝ }
-{
-    match erase {
-        1 => Range { first: 0, pages: 8 },
-        2 => Range { first: 8, pages: 8 },
-        4 => Range {
-            first: 16,
-            pages: 8,
-        },
-        8 => Range {
-            first: 24,
-            pages: 8,
-        },
-        16 => Range {
-            first: 32,
-            pages: 224,
-        },
-        32 => Range {
-            first: 256,
-            pages: 128,
-        },
-        _ => Range { first: 0, pages: 0 },
-    }
-}
-
-// The wait in microseconds before the array recovers from a tripped pulse.
-fn trip_wait(direction: Direction) -> u64
-    ensures { λ r. ⌜ r ≡ tripWait direction ⌝ }
-{
-    match direction {
-        Direction::Program => PROGRAM_FALL,
-        Direction::Erase => ERASE_FALL,
-    }
-}
 
 impl Registers {
     // A pulse's ready instant, from its own.
@@ -127,7 +89,7 @@ impl Registers {
 
     // What a tripped protection does to the registers.
     pub fn tripped(self, pulse: OpenPulse, now: Time) -> Registers
-        requires { ⌜ now .0 < 2 ^ 64 - 1 ⌝ }
+        requires { ⌜ beforeLastSecond now ⌝ }
         ensures { λ r. ⌜ r ≡ tripped pulse now self ⌝ }
     {
         match pulse {
@@ -144,7 +106,7 @@ impl Registers {
     }
 
     pub fn protect(self, now: Time) -> Registers
-        requires { ⌜ now .0 < 2 ^ 64 - 1 ⌝ }
+        requires { ⌜ beforeLastSecond now ⌝ }
         ensures { λ r. ⌜ r ≡ protect now self ⌝ }
     {
         let pulse = self.pulse();
@@ -156,7 +118,7 @@ impl Registers {
 
     // What reading a byte does to the registers.
     pub fn read8(self, now: Time) -> Registers
-        requires { ⌜ now .0 < 2 ^ 64 - 1 ⌝ }
+        requires { ⌜ beforeLastSecond now ⌝ }
         ensures { λ r. ⌜ r ≡ read8 now self ⌝ }
     {
         if self.normal(now) {
@@ -168,7 +130,7 @@ impl Registers {
 
     // What reading a word does to the registers.
     pub fn read16(self, now: Time) -> Registers
-        requires { ⌜ now .0 < 2 ^ 64 - 1 ⌝ }
+        requires { ⌜ beforeLastSecond now ⌝ }
         ensures { λ r. ⌜ r ≡ read16 now self ⌝ }
     {
         if self.normal(now) {

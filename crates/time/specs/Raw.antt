@@ -1,6 +1,6 @@
 -- Instants and lengths of time as natural numbers of raw units, 2^-64 s. Document 01, "Time".
 -- Assumes nothing.
-use Prim.Native.Nat.{ℕ, _+_, _-_, _*_, _/_, _%_, _^_}
+use Prim.Native.Nat.{ℕ, _+_, _-_, _*_, _/_, _%_, _^_, _<_}
 use mathlib.Core.Bool.{cond}
 use lib.Dec.{ltb}
 use Rattle.time.specs.declared.Time.{Time}
@@ -21,9 +21,12 @@ instant n = record { 0 = n / 2 ^ 64; 1 = n % 2 ^ 64 }
 unfoldable pub duration : ℕ → Duration
 duration n = record { 0 = n / 2 ^ 64; 1 = n % 2 ^ 64 }
 
+abbrev pub microsPerSecond : ℕ
+microsPerSecond = 1000000
+
 -- N microseconds are floor(N × 2^64 / 1,000,000) raw.
 unfoldable pub micros : ℕ → Duration
-micros n = duration (n * 2 ^ 64 / 1000000)
+micros n = duration (n * 2 ^ 64 / microsPerSecond)
 
 -- the later of two instants
 unfoldable pub later : Time → Time → Time
@@ -36,6 +39,10 @@ plus t d = instant (raw t + span d)
 -- the same where it has 128 bits
 unfoldable pub added : Time → Duration → Sum
 added t d = cond (ltb (raw t + span d) (2 ^ 128)) (At (plus t d)) Overflow
+
+-- Whole seconds 2^64-1 are refused; before them every wait below a second has its sum.
+abbrev pub beforeLastSecond : Time → Type 0
+beforeLastSecond t = t .0 < 2 ^ 64 - 1
 
 -- now plus N microseconds
 unfoldable pub after : Time → ℕ → Time

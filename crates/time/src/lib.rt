@@ -1,9 +1,9 @@
 // Instants and lengths of time, in raw units of 2^-64 s. `u128` of the original is two 64-bit halves here:
 // whole seconds and a fraction.
 ghost use mathlib.Core.Path.{_≡_};
-ghost use Prim.Native.Nat.{_-_, _^_, _<_, _≤_};
+ghost use Prim.Native.Nat.{_<_};
 ghost use lib.Dec.{ltb, leb, eqb};
-ghost use Rattle.time.specs.Raw.{raw, span, later, added, after, since, micros};
+ghost use Rattle.time.specs.Raw.{raw, span, later, added, after, since, micros, microsPerSecond, beforeLastSecond};
 
 // An instant: whole seconds, and a fraction of a second.
 pub struct Time(pub u64, pub u64);
@@ -63,7 +63,7 @@ impl Time {
 
     // The instant n microseconds after this one, for a wait below one second.
     pub fn after(self, n: u64) -> Time
-        requires { ⌜ (self .0 < 2 ^ 64 - 1) × (n < 1000000) ⌝ }
+        requires { ⌜ beforeLastSecond self × (n < microsPerSecond) ⌝ }
         ensures { λ r. ⌜ r ≡ after self n ⌝ }
     {
         let sum = self.checked_add(Duration::from_micros(n));

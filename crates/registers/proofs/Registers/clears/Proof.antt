@@ -1,6 +1,6 @@
 -- `registers::Registers::clears` meets its contract: the calls give the numbers that the definition compares.
 -- Assumes nothing.
-use Rattle.registers.specs.Supplies.{clears}
+use Rattle.registers.specs.Environment.{clears}
 use borrow.Author.Needs.{needs}
 use Rattle.registers.proofs.Registers.clears.Statement.{statement}
 use Rattle.registers.proofs.Registers.clears.Tie as tie

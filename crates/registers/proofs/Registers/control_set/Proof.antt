@@ -1,6 +1,6 @@
 -- `registers::Registers::control_set` meets its contract: each new field is what the call for it ensures; the others stay.
 -- Assumes nothing.
-use Rattle.registers.specs.Control.{controlSet}
+use Rattle.registers.specs.Access.{controlSet}
 use borrow.Author.Needs.{needs}
 use Rattle.registers.proofs.Registers.control_set.Statement.{statement}
 use Rattle.registers.proofs.Registers.control_set.Tie as tie

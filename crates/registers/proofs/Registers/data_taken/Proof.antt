@@ -1,6 +1,6 @@
 -- `registers::Registers::data_taken` meets its contract: the tests, with what `reached` ensures, pick the definition's case.
 -- Assumes nothing.
-use Rattle.registers.specs.Control.{dataTaken}
+use Rattle.registers.specs.Latch.{dataTaken}
 use borrow.Author.Needs.{needs}
 use Rattle.registers.proofs.Registers.data_taken.Statement.{statement}
 use Rattle.registers.proofs.Registers.data_taken.Tie as tie

@@ -1,6 +1,6 @@
 -- `registers::Registers::data_write` meets its contract: the branch taken is the one that `takesData` chooses.
 -- Assumes nothing.
-use Rattle.registers.specs.Control.{dataWrite}
+use Rattle.registers.specs.Latch.{dataWrite}
 use mathlib.Core.Path.{sym, _∙_}
 use borrow.Author.Needs.{needs}
 use Rattle.registers.proofs.Registers.data_write.Statement.{statement}

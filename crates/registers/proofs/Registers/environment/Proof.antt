@@ -1,6 +1,6 @@
 -- `registers::Registers::environment` meets its contract: the tests pick the definition's case, and the calls compose as the definitions do.
 -- Assumes nothing.
-use Rattle.registers.specs.Supplies.{environment}
+use Rattle.registers.specs.Environment.{environment}
 use mathlib.Core.Path.{sym, _∙_}
 use borrow.Author.Needs.{needs}
 use Rattle.registers.proofs.Registers.environment.Statement.{statement}

@@ -1,6 +1,6 @@
 -- `registers::Registers::environment_set` meets its contract: each new field is what the call for it ensures; the others stay.
 -- Assumes nothing.
-use Rattle.registers.specs.Supplies.{environmentSet}
+use Rattle.registers.specs.Environment.{environmentSet}
 use borrow.Author.Needs.{needs}
 use Rattle.registers.proofs.Registers.environment_set.Statement.{statement}
 use Rattle.registers.proofs.Registers.environment_set.Tie as tie

@@ -2,7 +2,7 @@
 -- Assumes nothing.
 use mathlib.Core.Path.{refl}
 use Rattle.time.specs.Raw.{instant}
-use Rattle.registers.specs.Supplies.{fresh, blankLatch}
+use Rattle.registers.specs.Environment.{fresh, blankLatch}
 use Rattle.registers.proofs.Registers.new.Statement.{statement}
 use Rattle.registers.proofs.Registers.new.Tie as tie
 

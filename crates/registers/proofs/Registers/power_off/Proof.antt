@@ -1,6 +1,6 @@
 -- `registers::Registers::power_off` meets its contract: it is a reset with three fields changed.
 -- Assumes nothing.
-use Rattle.registers.specs.Supplies.{powerOff}
+use Rattle.registers.specs.Environment.{powerOff}
 use borrow.Author.Needs.{needs}
 use Rattle.registers.proofs.Registers.power_off.Statement.{statement}
 use Rattle.registers.proofs.Registers.power_off.Tie as tie

@@ -1,7 +1,7 @@
 -- `registers::Registers::register` meets its contract: the tests and the matched address pick the definition's case, by rewriting with each.
 -- Assumes nothing.
 use borrow.Author.Tests.{eq-eqb, ne-eqb}
-use Rattle.registers.specs.Control.{register}
+use Rattle.registers.specs.Access.{register}
 use borrow.Author.Needs.{needs}
 use Rattle.registers.proofs.Registers.register.Statement.{statement}
 use Rattle.registers.proofs.Registers.register.Tie as tie

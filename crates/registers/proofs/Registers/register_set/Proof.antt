@@ -2,7 +2,7 @@
 -- Assumes nothing.
 use borrow.Author.Tests.{ne-eqb}
 use mathlib.Core.Path.{sym, _∙_}
-use Rattle.registers.specs.Control.{registerSet}
+use Rattle.registers.specs.Access.{registerSet}
 use borrow.Author.Needs.{needs}
 use Rattle.registers.proofs.Registers.register_set.Statement.{statement}
 use Rattle.registers.proofs.Registers.register_set.Tie as tie

@@ -1,6 +1,6 @@
 -- `registers::Registers::reset` meets its contract: the calls compose as the definitions do, and the other fields are the definition's.
 -- Assumes nothing.
-use Rattle.registers.specs.Supplies.{reset, blankLatch}
+use Rattle.registers.specs.Environment.{reset, blankLatch}
 use borrow.Author.Needs.{needs}
 use Rattle.registers.proofs.Registers.reset.Statement.{statement}
 use Rattle.registers.proofs.Registers.reset.Tie as tie

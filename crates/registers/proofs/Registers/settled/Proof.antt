@@ -1,6 +1,6 @@
 -- `registers::Registers::settled` meets its contract: the branch taken is the one that `senseDue` chooses.
 -- Assumes nothing.
-use Rattle.registers.specs.Control.{settled}
+use Rattle.registers.specs.Access.{settled}
 use mathlib.Core.Path.{sym, _∙_}
 use borrow.Author.Needs.{needs}
 use Rattle.registers.proofs.Registers.settled.Statement.{statement}

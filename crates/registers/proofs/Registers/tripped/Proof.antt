@@ -4,7 +4,7 @@ use Prim.Native.Nat.{_<_}
 use lib.Dec.{lit<}
 use Rattle.cell.specs.declared.Direction.{Direction}
 use Rattle.cell.specs.declared.Direction.the-variants.{Program, Erase}
-use Rattle.registers.specs.Pulses.{tripWait}
+use Rattle.control.specs.Waits.{tripWait}
 use borrow.Author.Needs.{needs}
 use Rattle.registers.proofs.Registers.tripped.Statement.{statement}
 use Rattle.registers.proofs.Registers.tripped.Tie as tie

@@ -1,6 +1,6 @@
 -- `registers::Registers::unchanged` meets its contract: the calls give the numbers that the definition compares.
 -- Assumes nothing.
-use Rattle.registers.specs.Supplies.{unchanged}
+use Rattle.registers.specs.Environment.{unchanged}
 use borrow.Author.Needs.{needs}
 use Rattle.registers.proofs.Registers.unchanged.Statement.{statement}
 use Rattle.registers.proofs.Registers.unchanged.Tie as tie

@@ -1,6 +1,6 @@
 -- `registers::Registers::write8` meets its contract: the two calls compose as the definitions do.
 -- Assumes nothing.
-use Rattle.registers.specs.Control.{write8}
+use Rattle.registers.specs.Latch.{write8}
 use borrow.Author.Needs.{needs}
 use Rattle.registers.proofs.Registers.write8.Statement.{statement}
 use Rattle.registers.proofs.Registers.write8.Tie as tie

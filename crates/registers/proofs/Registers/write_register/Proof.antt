@@ -2,7 +2,7 @@
 -- Assumes nothing.
 use Rattle.registers.proofs.Tests.{cond-yes}
 use borrow.Author.Tests.{eq-eqb, ne-eqb}
-use Rattle.registers.specs.Control.{writeRegister}
+use Rattle.registers.specs.Access.{writeRegister}
 use borrow.Author.Needs.{needs}
 use Rattle.registers.proofs.Registers.write_register.Statement.{statement}
 use Rattle.registers.proofs.Registers.write_register.Tie as tie

@@ -4,7 +4,8 @@ use Prim.Native.Nat.{_<_}
 use lib.Dec.{lit<}
 use Rattle.cell.specs.declared.Direction.{Direction}
 use Rattle.cell.specs.declared.Direction.the-variants.{Program, Erase}
-use Rattle.registers.specs.Calls.{ending, setup}
+use Rattle.control.specs.Bits.{setup}
+use Rattle.registers.specs.Calls.{ending}
 use native.Mathlib.Omega.{arith}
 use borrow.Author.Needs.{needs}
 use Rattle.registers.proofs.calls.ending.Statement.{statement}
