@@ -1,6 +1,7 @@
 -- Cells: sizes, classes, sensing, and the rule of one cell. Document 01, "Cells and sensing" and "Pulses and settling".
 -- Assumes nothing.
 use Prim.Native.Nat.{ℕ, zero, suc, _+_, _-_, _*_, _/_, _%_, _^_, min}
+use mathlib.Core.Path.{_≡_}
 use mathlib.Core.List.{List, [], _∷_}
 use mathlib.Core.Bool.{Bool, true, false, cond}
 use lib.Bits.{bitXor}
@@ -30,9 +31,24 @@ pages = 384
 abbrev pub FULL : ℕ
 FULL = 12912720851596686100
 
+-- ---- lists: an update of every element by its place
+
+abbrev pub at : List ℕ → ℕ → ℕ
+at xs k = getD xs k 0
+
+abbrev pub mapi : (ℕ → ℕ → ℕ) → ℕ → List ℕ → List ℕ
+mapi f i [] = []
+mapi f i (x ∷ xs) = f i x ∷ mapi f (suc i) xs
+
+-- ---- classes and sensing
+
 -- Cell i = 8 × address + bit has class ((13i) xor floor(i/16)) mod 16.
 unfoldable pub classOf : ℕ → ℕ
 classOf i = bitXor (13 * i) (i / 16) % 16
+
+-- It repeats every 256 cells and is kept as a table of 256 classes: the class of cell i stands at i mod 256.
+unfoldable pub Classes : List ℕ → Type 0
+Classes table = (i : ℕ) → at table (i % 256) ≡ classOf i
 
 -- The limits of a class: normally, under program verify, under erase verify.
 unfoldable pub limitOf : Sense → ℕ → ℕ
@@ -45,6 +61,10 @@ unfoldable pub senses : Sense → ℕ → ℕ → Bool
 senses Normal c q = ltb q (limitOf Normal c)
 senses ProgramVerify c q = ltb q (limitOf ProgramVerify c)
 senses EraseVerify c q = leb q (limitOf EraseVerify c)
+
+-- the same as a table of 256 numbers: cell i senses 1 below the number at i mod 256
+unfoldable pub Ceilings : Sense → List ℕ → Type 0
+Ceilings m table = (i q : ℕ) → senses m (classOf i) q ≡ ltb q (at table (i % 256))
 
 -- what the cell i with charge q senses, as a bit
 unfoldable pub sensedCell : Sense → ℕ → ℕ → ℕ
@@ -80,15 +100,6 @@ exposed d latched l q = moved d latched (rate d * l) q
 -- A page's first charges: each cell 0 where its stored bit is 1, else FULL.
 abbrev pub firstCharge : ℕ → ℕ
 firstCharge stored = cond (eqb stored 1) 0 FULL
-
--- ---- lists: an update of every element by its place
-
-abbrev pub at : List ℕ → ℕ → ℕ
-at xs k = getD xs k 0
-
-abbrev pub mapi : (ℕ → ℕ → ℕ) → ℕ → List ℕ → List ℕ
-mapi f i [] = []
-mapi f i (x ∷ xs) = f i x ∷ mapi f (suc i) xs
 
 -- the bit of cell j in a page's 128 bytes
 unfoldable pub pageBit : List ℕ → ℕ → ℕ

@@ -1,6 +1,5 @@
 // The class of each cell, which sets its limits.
-ghost use mathlib.Core.Path.{_≡_};
-ghost use Rattle.cell.specs.Cell.{classOf};
+ghost use Rattle.cell.specs.Cell.{Classes};
 
 // The classes repeat every 256 cells.
 const CLASS: [u8; 256] = [
@@ -262,9 +261,9 @@ const CLASS: [u8; 256] = [
     12,
 ];
 
-// The class of the cell i = 8 × address + bit.
-pub fn class(i: usize) -> u8
-    ensures { λ r. ⌜ r ≡ classOf i ⌝ }
+// The class of the cell i = 8 × address + bit stands at i mod 256.
+pub fn classes() -> [u8; 256]
+    ensures { λ r. ⌜ Classes r ⌝ }
 {
-    CLASS[i % 256]
+    CLASS
 }

@@ -1,15 +1,16 @@
-// What cells sense: one cell, the eight of a byte, the 128 bytes of a page.
+// What cells sense: one cell, the eight of a byte, the 128 bytes of a page. In every mode a cell senses 1 below one number, its
+// ceiling: its limit, or one more where the limit itself senses 1. The ceilings of 256 cells are worked out once and lent to what
+// senses many.
 ghost use mathlib.Core.Path.{_≡_};
 ghost use Prim.Native.Nat.{ℕ, _+_, _-_, _*_, _<_, _≤_};
 ghost use lib.Dec.{ltb};
 ghost use lib.ListN.{length};
-ghost use Rattle.cell.specs.Cell.{senses, sensedCell, sensedByte, sensedPage, pageBytes, pageCells, arrayBytes, at};
+ghost use Rattle.cell.specs.Cell.{senses, sensedCell, sensedByte, sensedPage, Ceilings, pageBytes, pageCells, arrayBytes, at};
 use crate::PAGE;
 use crate::Sense;
-use crate::classes::class;
+use crate::classes::classes;
 
-// For each limit and class, the lowest charge that senses 0.
-const CEILING: [u64; 48] = [
+const NORMAL: [u64; 16] = [
     3332315058476564154,
     3540584749631349414,
     3748854440786134674,
@@ -26,6 +27,9 @@ const CEILING: [u64; 48] = [
     6039821043488772530,
     6248090734643557790,
     6456360425798343050,
+];
+
+const PROGRAM_VERIFY: [u64; 16] = [
     6664630116953128309,
     7081169499262698829,
     7497708881572269348,
@@ -42,6 +46,9 @@ const CEILING: [u64; 48] = [
     12079642086977545061,
     12496181469287115580,
     12912720851596686100,
+];
+
+const ERASE_VERIFY: [u64; 16] = [
     1,
     50440315826549556,
     100880631653099111,
@@ -60,60 +67,71 @@ const CEILING: [u64; 48] = [
     756604737398243327,
 ];
 
-// The lowest charge at which a cell of class c senses 0.
-fn ceiling(m: Sense, c: u8) -> u64
-    requires { ⌜ c < 16 ⌝ }
-    ensures { λ r. ⌜ ((q : ℕ) → senses m c q ≡ ltb q r) ⌝ }
+// The ceiling of each class.
+fn row(m: Sense) -> [u64; 16]
+    ensures { λ r. ⌜ ((c q : ℕ) → c < 16 → senses m c q ≡ ltb q (at r c)) ⌝ }
 {
-    let k = c as usize;
     match m {
-        Sense::Normal => CEILING[k],
-        Sense::ProgramVerify => CEILING[16 + k],
-        Sense::EraseVerify => CEILING[32 + k],
+        Sense::Normal => NORMAL,
+        Sense::ProgramVerify => PROGRAM_VERIFY,
+        Sense::EraseVerify => ERASE_VERIFY,
     }
 }
 
-// What the cell i with the charge q senses, 1 or 0.
-fn sense_cell(m: Sense, i: usize, q: u64) -> u8
-    ensures { λ r. ⌜ (r ≡ sensedCell m i q) × (r ≤ 1) ⌝ }
+// The ceiling of the cell i = 8 × address + bit stands at i mod 256.
+pub fn ceilings(m: Sense) -> [u64; 256]
+    ensures { λ r. ⌜ Ceilings m r ⌝ }
 {
-    if q < ceiling(m, class(i)) { 1 } else { 0 }
+    let table = classes();
+    let by_class = row(m);
+    let mut all = [0u64; 256];
+    let mut i: usize = 0;
+    while i < 256 {
+        let c = (table[i] % 16) as usize;
+        all[i] = by_class[c];
+        i += 1;
+    }
+    all
 }
 
 // What the cell k of the byte at an address senses, 1 or 0.
-fn sense_bit(m: Sense, address: usize, cells: &[u64], k: usize) -> u8
-    requires { ⌜ (address < arrayBytes) × (length (now cells) ≡ 8) × (k < 8) ⌝ }
+fn sense_bit(m: Sense, ceilings: &[u64; 256], address: usize, cells: &[u64], k: usize) -> u8
+    requires { ⌜ Ceilings m (now ceilings) × (address < arrayBytes) × (length (now cells) ≡ 8) × (k < 8) ⌝ }
     ensures { λ r. ⌜ (r ≡ sensedCell m (8 * address + k) (at (now (cells .entry)) k)) × (r ≤ 1) ⌝ }
 {
-    sense_cell(m, 8 * address + k, cells[k])
+    if cells[k] < ceilings[(8 * address + k) % 256] {
+        1
+    } else {
+        0
+    }
 }
 
 // The byte that the eight cells at an address sense.
-pub fn sense_byte(m: Sense, address: usize, cells: &[u64]) -> u8
-    requires { ⌜ (address < arrayBytes) × (length (now cells) ≡ 8) ⌝ }
+pub fn sense_byte(m: Sense, ceilings: &[u64; 256], address: usize, cells: &[u64]) -> u8
+    requires { ⌜ Ceilings m (now ceilings) × (address < arrayBytes) × (length (now cells) ≡ 8) ⌝ }
     ensures { λ r. ⌜ r ≡ sensedByte m address (at (now (cells .entry))) ⌝ }
 {
-    let low = sense_bit(m, address, cells, 0)
-        + 2 * sense_bit(m, address, cells, 1)
-        + 4 * sense_bit(m, address, cells, 2)
-        + 8 * sense_bit(m, address, cells, 3);
-    let high = sense_bit(m, address, cells, 4)
-        + 2 * sense_bit(m, address, cells, 5)
-        + 4 * sense_bit(m, address, cells, 6)
-        + 8 * sense_bit(m, address, cells, 7);
+    let low = sense_bit(m, ceilings, address, cells, 0)
+        + 2 * sense_bit(m, ceilings, address, cells, 1)
+        + 4 * sense_bit(m, ceilings, address, cells, 2)
+        + 8 * sense_bit(m, ceilings, address, cells, 3);
+    let high = sense_bit(m, ceilings, address, cells, 4)
+        + 2 * sense_bit(m, ceilings, address, cells, 5)
+        + 4 * sense_bit(m, ceilings, address, cells, 6)
+        + 8 * sense_bit(m, ceilings, address, cells, 7);
     low + 16 * high
 }
 
 // The 128 bytes that a page's cells sense; the page begins at `address`.
-pub fn sense_page(m: Sense, address: usize, cells: &[u64], out: &mut [u8])
-    requires { ⌜ (address ≤ arrayBytes - pageBytes) × (length (now cells) ≡ pageCells) × (length (now out) ≡ pageBytes) ⌝ }
+pub fn sense_page(m: Sense, ceilings: &[u64; 256], address: usize, cells: &[u64], out: &mut [u8])
+    requires { ⌜ Ceilings m (now ceilings) × (address ≤ arrayBytes - pageBytes) × (length (now cells) ≡ pageCells) × (length (now out) ≡ pageBytes) ⌝ }
     ensures { λ _. ⌜ now (out .exit) ≡ sensedPage m address (now (cells .entry)) (now (out .entry)) ⌝ }
 {
     let mut i: usize = 0;
     while i < PAGE {
         let from = 8 * i;
         let to = from + 8;
-        out[i] = sense_byte(m, address + i, &cells[from..to]);
+        out[i] = sense_byte(m, ceilings, address + i, &cells[from..to]);
         i += 1;
     }
 }

@@ -13,14 +13,14 @@ use Rattle.cell.proofs.sensing.sense_page.Statement.{statement}
 use Rattle.cell.proofs.sensing.sense_page.Tie as tie
 
 abbrev Inv-loop : tie.InvT-loop
-Inv-loop m address cells out₀ i₀ out i =
+Inv-loop m ceilings address cells out₀ i₀ out i =
     (i ≤ 128) × (length out ≡ 128) × (out ≡ partly (λ b x. sensedByte m (address + b) (λ k. at cells (8 * b + k))) i out₀)
 
 abbrev μ-loop : tie.MeasureT-loop
-μ-loop m address cells out₀ i₀ out i = 128 - i
+μ-loop m ceilings address cells out₀ i₀ out i = 128 - i
 
 loop-holds : tie.Need-loop-holds Inv-loop μ-loop
-loop-holds c = (omega arith, c .before .before .pre .2, refl)
+loop-holds c = (omega arith, c .before .before .pre .3, refl)
 
 mul-from : tie.Need-mul-from Inv-loop μ-loop
 mul-from c = omega arith
@@ -44,7 +44,7 @@ part-sense-byte-end : tie.Need-part-sense-byte-end Inv-loop μ-loop
 part-sense-byte-end c = omega arith
 
 sense-byte-requires : tie.Need-sense-byte-requires Inv-loop μ-loop
-sense-byte-requires c κs = (omega arith, simp (length-take, length-drop) (omega arith))
+sense-byte-requires c κs = (c .before .before .before .before .before .pre .0, omega arith, simp (length-take, length-drop) (omega arith))
 
 slice-write-out : tie.Need-slice-write-out Inv-loop μ-loop
 slice-write-out c = omega arith
@@ -66,14 +66,14 @@ loop-again c =
     )
 
 same-length : tie.Need-same-length Inv-loop μ-loop
-same-length c = c .before .loop .inv .1 ∙ sym (c .before .before .before .before .pre .2)
+same-length c = c .before .loop .inv .1 ∙ sym (c .before .before .before .before .pre .3)
 
 returns : tie.Need-returns Inv-loop μ-loop
 unfolding sensedPage
 returns c =
     let l = c .before .loop in
     let e : l .i ≡ 128 = omega arith in
-    l .inv .2 ∙ partly-all _ _ _ (e ∙ sym (c .before .before .before .before .pre .2))
+    l .inv .2 ∙ partly-all _ _ _ (e ∙ sym (c .before .before .before .before .pre .3))
 
 pub sense-page-spec : {M : Type 1} → statement M
 sense-page-spec =
