@@ -1,11 +1,10 @@
 -- Cells: sizes, classes, sensing, and the rule of one cell. Document 01, "Cells and sensing" and "Pulses and settling".
 -- Assumes nothing.
 use Prim.Native.Nat.{ℕ, zero, suc, _+_, _-_, _*_, _/_, _%_, _^_, min}
-use mathlib.Core.Path.{_≡_}
 use mathlib.Core.List.{List, [], _∷_}
 use mathlib.Core.Bool.{Bool, true, false, cond}
 use lib.Bits.{bitXor}
-use lib.ListN.{getD}
+use lib.ListN.{getD, replicate}
 use lib.Dec.{ltb, leb, eqb}
 use Rattle.cell.specs.declared.Sense.{Sense}
 use Rattle.cell.specs.declared.Sense.the-variants.{Normal, ProgramVerify, EraseVerify}
@@ -31,7 +30,7 @@ pages = 384
 abbrev pub FULL : ℕ
 FULL = 12912720851596686100
 
--- ---- lists: an update of every element by its place
+-- ---- lists: an element by its place, an update of every element by its place, a table
 
 abbrev pub at : List ℕ → ℕ → ℕ
 at xs k = getD xs k 0
@@ -40,15 +39,19 @@ abbrev pub mapi : (ℕ → ℕ → ℕ) → ℕ → List ℕ → List ℕ
 mapi f i [] = []
 mapi f i (x ∷ xs) = f i x ∷ mapi f (suc i) xs
 
+-- g 0, g 1, .. : n numbers
+abbrev pub tabulate : (ℕ → ℕ) → ℕ → List ℕ
+tabulate g n = mapi (λ k x. g k) 0 (replicate n 0)
+
 -- ---- classes and sensing
 
 -- Cell i = 8 × address + bit has class ((13i) xor floor(i/16)) mod 16.
 unfoldable pub classOf : ℕ → ℕ
 classOf i = bitXor (13 * i) (i / 16) % 16
 
--- It repeats every 256 cells and is kept as a table of 256 classes: the class of cell i stands at i mod 256.
-unfoldable pub Classes : List ℕ → Type 0
-Classes table = (i : ℕ) → at table (i % 256) ≡ classOf i
+-- It repeats every 256 cells and is kept as a table of 256 classes.
+unfoldable pub classTable : List ℕ
+classTable = tabulate classOf 256
 
 -- The limits of a class: normally, under program verify, under erase verify.
 unfoldable pub limitOf : Sense → ℕ → ℕ
@@ -62,9 +65,14 @@ senses Normal c q = ltb q (limitOf Normal c)
 senses ProgramVerify c q = ltb q (limitOf ProgramVerify c)
 senses EraseVerify c q = leb q (limitOf EraseVerify c)
 
--- the same as a table of 256 numbers: cell i senses 1 below the number at i mod 256
-unfoldable pub Ceilings : Sense → List ℕ → Type 0
-Ceilings m table = (i q : ℕ) → senses m (classOf i) q ≡ ltb q (at table (i % 256))
+-- the lowest charge with which it senses 0, and a table of that for 256 cells in a row
+unfoldable pub ceilingOf : Sense → ℕ → ℕ
+ceilingOf Normal c = limitOf Normal c
+ceilingOf ProgramVerify c = limitOf ProgramVerify c
+ceilingOf EraseVerify c = limitOf EraseVerify c + 1
+
+unfoldable pub ceilingTable : Sense → List ℕ
+ceilingTable m = tabulate (λ i. ceilingOf m (classOf i)) 256
 
 -- what the cell i with charge q senses, as a bit
 unfoldable pub sensedCell : Sense → ℕ → ℕ → ℕ

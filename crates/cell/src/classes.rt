@@ -1,5 +1,6 @@
 // The class of each cell, which sets its limits.
-ghost use Rattle.cell.specs.Cell.{Classes};
+ghost use mathlib.Core.Path.{_≡_};
+ghost use Rattle.cell.specs.Cell.{classTable};
 
 // The classes repeat every 256 cells.
 const CLASS: [u8; 256] = [
@@ -263,7 +264,7 @@ const CLASS: [u8; 256] = [
 
 // The class of the cell i = 8 × address + bit stands at i mod 256.
 pub fn classes() -> [u8; 256]
-    ensures { λ r. ⌜ Classes r ⌝ }
+    ensures { λ r. ⌜ r ≡ classTable ⌝ }
 {
     CLASS
 }

@@ -2,10 +2,9 @@
 // ceiling: its limit, or one more where the limit itself senses 1. The ceilings of 256 cells are worked out once and lent to what
 // senses many.
 ghost use mathlib.Core.Path.{_≡_};
-ghost use Prim.Native.Nat.{ℕ, _+_, _-_, _*_, _<_, _≤_};
-ghost use lib.Dec.{ltb};
+ghost use Prim.Native.Nat.{_+_, _-_, _*_, _<_, _≤_};
 ghost use lib.ListN.{length};
-ghost use Rattle.cell.specs.Cell.{senses, sensedCell, sensedByte, sensedPage, Ceilings, pageBytes, pageCells, arrayBytes, at};
+ghost use Rattle.cell.specs.Cell.{ceilingOf, ceilingTable, tabulate, sensedCell, sensedByte, sensedPage, pageBytes, pageCells, arrayBytes, at};
 use crate::PAGE;
 use crate::Sense;
 use crate::classes::classes;
@@ -69,7 +68,7 @@ const ERASE_VERIFY: [u64; 16] = [
 
 // The ceiling of each class.
 fn row(m: Sense) -> [u64; 16]
-    ensures { λ r. ⌜ ((c q : ℕ) → c < 16 → senses m c q ≡ ltb q (at r c)) ⌝ }
+    ensures { λ r. ⌜ r ≡ tabulate (ceilingOf m) 16 ⌝ }
 {
     match m {
         Sense::Normal => NORMAL,
@@ -80,7 +79,7 @@ fn row(m: Sense) -> [u64; 16]
 
 // The ceiling of the cell i = 8 × address + bit stands at i mod 256.
 pub fn ceilings(m: Sense) -> [u64; 256]
-    ensures { λ r. ⌜ Ceilings m r ⌝ }
+    ensures { λ r. ⌜ r ≡ ceilingTable m ⌝ }
 {
     let table = classes();
     let by_class = row(m);
@@ -96,7 +95,7 @@ pub fn ceilings(m: Sense) -> [u64; 256]
 
 // What the cell k of the byte at an address senses, 1 or 0.
 fn sense_bit(m: Sense, ceilings: &[u64; 256], address: usize, cells: &[u64], k: usize) -> u8
-    requires { ⌜ Ceilings m (now ceilings) × (address < arrayBytes) × (length (now cells) ≡ 8) × (k < 8) ⌝ }
+    requires { ⌜ (now ceilings ≡ ceilingTable m) × (address < arrayBytes) × (length (now cells) ≡ 8) × (k < 8) ⌝ }
     ensures { λ r. ⌜ (r ≡ sensedCell m (8 * address + k) (at (now (cells .entry)) k)) × (r ≤ 1) ⌝ }
 {
     if cells[k] < ceilings[(8 * address + k) % 256] {
@@ -108,7 +107,7 @@ fn sense_bit(m: Sense, ceilings: &[u64; 256], address: usize, cells: &[u64], k: 
 
 // The byte that the eight cells at an address sense.
 pub fn sense_byte(m: Sense, ceilings: &[u64; 256], address: usize, cells: &[u64]) -> u8
-    requires { ⌜ Ceilings m (now ceilings) × (address < arrayBytes) × (length (now cells) ≡ 8) ⌝ }
+    requires { ⌜ (now ceilings ≡ ceilingTable m) × (address < arrayBytes) × (length (now cells) ≡ 8) ⌝ }
     ensures { λ r. ⌜ r ≡ sensedByte m address (at (now (cells .entry))) ⌝ }
 {
     let low = sense_bit(m, ceilings, address, cells, 0)
@@ -124,7 +123,7 @@ pub fn sense_byte(m: Sense, ceilings: &[u64; 256], address: usize, cells: &[u64]
 
 // The 128 bytes that a page's cells sense; the page begins at `address`.
 pub fn sense_page(m: Sense, ceilings: &[u64; 256], address: usize, cells: &[u64], out: &mut [u8])
-    requires { ⌜ Ceilings m (now ceilings) × (address ≤ arrayBytes - pageBytes) × (length (now cells) ≡ pageCells) × (length (now out) ≡ pageBytes) ⌝ }
+    requires { ⌜ (now ceilings ≡ ceilingTable m) × (address ≤ arrayBytes - pageBytes) × (length (now cells) ≡ pageCells) × (length (now out) ≡ pageBytes) ⌝ }
     ensures { λ _. ⌜ now (out .exit) ≡ sensedPage m address (now (cells .entry)) (now (out .entry)) ⌝ }
 {
     let mut i: usize = 0;

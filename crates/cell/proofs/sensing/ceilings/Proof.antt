@@ -1,13 +1,13 @@
--- `cell::sensing::ceilings` meets its contract. The loop's invariant: each place passed holds the ceiling of the class there.
+-- `cell::sensing::ceilings` meets its contract. The loop's invariant: each place passed holds the ceiling of the class there, which is the cell's.
 -- Assumes nothing.
 use Prim.Native.Nat.{ℕ, _≤_, _-_, _%_}
-use mathlib.Core.Path.{_≡_, refl, ap, _∙_}
+use mathlib.Core.Path.{_≡_, refl, _∙_}
 use mathlib.Core.List.{List}
 use native.Mathlib.Omega.{arith}
 use lib.ListN.{replicate}
-use Rattle.cell.specs.Cell.{at}
-use Rattle.cell.proofs.Ceiling.{ceilings-serve}
-use Rattle.cell.proofs.Maps.{getD-mapi}
+use Rattle.cell.specs.Cell.{at, classOf, ceilingOf, ceilingTable}
+use Rattle.cell.proofs.Ceiling.{ceiling-by-class}
+use Rattle.cell.proofs.Maps.{mapi-same}
 use Rattle.cell.proofs.Partly.{partly, partly-turn, partly-all}
 use Rattle.cell.proofs.sensing.ceilings.Statement.{statement}
 use Rattle.cell.proofs.sensing.ceilings.Tie as tie
@@ -58,14 +58,16 @@ loop-again : tie.Need-loop-again Inv-loop μ-loop
 loop-again c = let l = c .before .loop in (omega arith, partly-turn _ (l .i) _ _ _ (l .inv .1) refl)
 
 returns : tie.Need-returns Inv-loop μ-loop
+unfolding ceilingTable
 returns c =
     let l = c .before .loop in
     let b2 = c .before .before in
     let b3 = b2 .before in
     let e : l .i ≡ 256 = omega arith in
     let rule = by-class-there (b3 .classes .result) (b2 .row .result) in
-    ceilings-serve (b3 .before .args .m) (b3 .classes .result) (b2 .row .result) (l .all) (b3 .classes .ensures) (b2 .row .ensures)
-    (λ k h. ap (λ (all : List ℕ). at all k) (l .inv .1 ∙ partly-all rule (replicate 256 0) _ e) ∙ getD-mapi rule (replicate 256 0) k h)
+    l .inv .1
+    ∙ partly-all rule (replicate 256 0) _ e
+    ∙ mapi-same rule (λ k x. ceilingOf (b3 .before .args .m) (classOf k)) (replicate 256 0) (λ k h. rw (b3 .classes .ensures, b2 .row .ensures) (ceiling-by-class (b3 .before .args .m) k h))
 
 pub ceilings-spec : {M : Type 1} → statement M
 ceilings-spec =

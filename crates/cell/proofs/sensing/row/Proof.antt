@@ -1,9 +1,7 @@
--- `cell::sensing::row` meets its contract: each row is the rule of ceilings written out for its mode.
+-- `cell::sensing::row` meets its contract: each row is the rule of ceilings for its mode written out, by computing the rule.
 -- Assumes nothing.
 use borrow.Author.Needs.{needs}
-use Rattle.cell.specs.Cell.{limitOf}
-use Rattle.cell.specs.declared.Sense.the-variants.{Normal, ProgramVerify, EraseVerify}
-use Rattle.cell.proofs.Ceiling.{row-senses}
+use Rattle.cell.specs.Cell.{ceilingOf, limitOf}
 use Rattle.cell.proofs.sensing.row.Statement.{statement}
 use Rattle.cell.proofs.sensing.row.Tie as tie
 
@@ -17,16 +15,16 @@ enum-told-3 : tie.Need-enum-told-3
 enum-told-3 c = search needs
 
 returns : tie.Need-returns
-unfolding limitOf
-returns c = λ k q h. rw (c .enum-told .given .1) (row-senses Normal k q h)
+unfolding ceilingOf limitOf
+returns c = rw (c .enum-told .given .1)
 
 returns-2 : tie.Need-returns-2
-unfolding limitOf
-returns-2 c = λ k q h. rw (c .enum-told2 .given .1) (row-senses ProgramVerify k q h)
+unfolding ceilingOf limitOf
+returns-2 c = rw (c .enum-told2 .given .1)
 
 returns-3 : tie.Need-returns-3
-unfolding limitOf
-returns-3 c = λ k q h. rw (c .enum-told3 .given .1) (row-senses EraseVerify k q h)
+unfolding ceilingOf limitOf
+returns-3 c = rw (c .enum-told3 .given .1)
 
 pub row-spec : {M : Type 1} → statement M
 row-spec = tie.close (tie.spec enum-told enum-told-2 enum-told-3 returns returns-2 returns-3)

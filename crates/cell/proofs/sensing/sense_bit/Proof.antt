@@ -4,7 +4,7 @@ use Prim.Native.Nat.{_+_, _*_}
 use native.Mathlib.Omega.{arith}
 use borrow.Author.Needs.{needs}
 use borrow.Author.Tests.{lt-ltb, le-ltb}
-use Rattle.cell.specs.Cell.{sensedCell, Ceilings}
+use Rattle.cell.proofs.Ceiling.{sensed-below}
 use Rattle.cell.proofs.sensing.sense_bit.Statement.{statement}
 use Rattle.cell.proofs.sensing.sense_bit.Tie as tie
 
@@ -27,16 +27,14 @@ element-copy-out-if1 : tie.Need-element-copy-out-if1
 element-copy-out-if1 c = search needs
 
 returns : tie.Need-returns
-unfolding sensedCell Ceilings
 returns c =
     let b = c .before .before .before in
-    (rw (b .pre .0 (8 * b .args .address + b .args .k) _, lt-ltb _ _ (c .if1 .taken)), omega arith)
+    (rw (sensed-below _ (8 * b .args .address + b .args .k) _, ← b .pre .0, lt-ltb _ _ (c .if1 .taken)), omega arith)
 
 returns-2 : tie.Need-returns-2
-unfolding sensedCell Ceilings
 returns-2 c =
     let b = c .before .before .before in
-    (rw (b .pre .0 (8 * b .args .address + b .args .k) _, le-ltb _ _ (c .if1 .left)), omega arith)
+    (rw (sensed-below _ (8 * b .args .address + b .args .k) _, ← b .pre .0, le-ltb _ _ (c .if1 .left)), omega arith)
 
 pub sense-bit-spec : {M : Type 1} → statement M
 sense-bit-spec =
