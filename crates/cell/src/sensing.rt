@@ -4,7 +4,7 @@
 ghost use mathlib.Core.Path.{_≡_};
 ghost use Prim.Native.Nat.{_+_, _-_, _*_, _<_, _≤_};
 ghost use lib.ListN.{length};
-ghost use Rattle.cell.specs.Cell.{ceilingOf, ceilingTable, tabulate, sensedCell, sensedByte, sensedPage, pageBytes, pageCells, arrayBytes, at};
+ghost use Rattle.cell.specs.Cell.{ceilingOf, ceilingTable, fromBits, tabulate, sensedCell, sensedByte, sensedPage, pageBytes, pageCells, arrayBytes, at};
 use crate::PAGE;
 use crate::Sense;
 use crate::classes::classes;
@@ -105,20 +105,23 @@ fn sense_bit(m: Sense, ceilings: &[u64; 256], address: usize, cells: &[u64], k: 
     }
 }
 
+// What four cells of the byte at an address sense, from the cell k on.
+fn sense_nibble(m: Sense, ceilings: &[u64; 256], address: usize, cells: &[u64], k: usize) -> u8
+    requires { ⌜ (now ceilings ≡ ceilingTable m) × (address < arrayBytes) × (length (now cells) ≡ 8) × (k ≤ 4) ⌝ }
+    ensures { λ r. ⌜ (r ≡ fromBits 4 (λ j. sensedCell m (8 * address + (k + j)) (at (now (cells .entry)) (k + j)))) × (r < 16) ⌝ }
+{
+    sense_bit(m, ceilings, address, cells, k)
+        + 2 * sense_bit(m, ceilings, address, cells, k + 1)
+        + 4 * sense_bit(m, ceilings, address, cells, k + 2)
+        + 8 * sense_bit(m, ceilings, address, cells, k + 3)
+}
+
 // The byte that the eight cells at an address sense.
 pub fn sense_byte(m: Sense, ceilings: &[u64; 256], address: usize, cells: &[u64]) -> u8
     requires { ⌜ (now ceilings ≡ ceilingTable m) × (address < arrayBytes) × (length (now cells) ≡ 8) ⌝ }
     ensures { λ r. ⌜ r ≡ sensedByte m address (at (now (cells .entry))) ⌝ }
 {
-    let low = sense_bit(m, ceilings, address, cells, 0)
-        + 2 * sense_bit(m, ceilings, address, cells, 1)
-        + 4 * sense_bit(m, ceilings, address, cells, 2)
-        + 8 * sense_bit(m, ceilings, address, cells, 3);
-    let high = sense_bit(m, ceilings, address, cells, 4)
-        + 2 * sense_bit(m, ceilings, address, cells, 5)
-        + 4 * sense_bit(m, ceilings, address, cells, 6)
-        + 8 * sense_bit(m, ceilings, address, cells, 7);
-    low + 16 * high
+    sense_nibble(m, ceilings, address, cells, 0) + 16 * sense_nibble(m, ceilings, address, cells, 4)
 }
 
 // The 128 bytes that a page's cells sense; the page begins at `address`.
