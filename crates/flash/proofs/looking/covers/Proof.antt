@@ -1,0 +1,23 @@
+use Rattle.flash.specs.Settling.{covers}
+use native.Mathlib.Omega.{arith}
+use borrow.Author.Needs.{needs}
+use Rattle.flash.proofs.looking.covers.Statement.{statement}
+use Rattle.flash.proofs.looking.covers.Tie as tie
+use Rattle.flash.proofs.looking.covers.Reads as reads
+use Rattle.flash.proofs.looking.covers.Lts as lts
+
+cast-first : tie.Need-cast-first
+cast-first c = search needs
+
+cast-end : tie.Need-cast-end
+cast-end c = search needs
+
+add-end : tie.Need-add-end
+add-end c = search needs
+
+returns : tie.Need-returns
+unfolding covers
+returns c = search needs
+
+pub covers-spec : {M : Type 1} → statement M
+covers-spec = tie.close (tie.spec cast-first cast-end add-end returns)

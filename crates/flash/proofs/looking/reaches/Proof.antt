@@ -1,0 +1,20 @@
+use native.Mathlib.Omega.{arith}
+use borrow.Author.Needs.{needs}
+use Rattle.flash.proofs.looking.reaches.Statement.{statement}
+use Rattle.flash.proofs.looking.reaches.Tie as tie
+use Rattle.flash.proofs.looking.reaches.Reads as reads
+use Rattle.flash.proofs.looking.reaches.Lts as lts
+use Rattle.flash.proofs.looking.covers.Reads as covers-reads
+use Rattle.time.proofs.Duration.is_zero.Reads as is-zero-reads
+
+is-zero-requires : tie.Need-is-zero-requires
+is-zero-requires c κs = search needs
+
+covers-requires : tie.Need-covers-requires
+covers-requires c κs = search needs
+
+returns : tie.Need-returns
+returns c = rw (c .covers .ensures, c .before .is-zero .ensures)
+
+pub reaches-spec : {M : Type 1} → statement M
+reaches-spec = tie.close (tie.spec is-zero-requires covers-requires returns)

@@ -1,0 +1,47 @@
+use Rattle.flash.specs.Settling.{settledBy, expose, exposure}
+use Rattle.time.proofs.Laws.{span-since}
+use Rattle.time.specs.Raw.{span}
+use native.Mathlib.Omega.{arith}
+use borrow.Author.Needs.{needs}
+use Rattle.flash.proofs.looking.view_at.Statement.{statement}
+use Rattle.flash.proofs.looking.view_at.Tie as tie
+use Rattle.flash.proofs.looking.view_at.Reads as reads
+use Rattle.flash.proofs.looking.view_at.Lts as lts
+use Rattle.registers.proofs.Registers.pulse.Reads as pulse-reads
+use Rattle.time.proofs.Time.max.Reads as max-reads
+use Rattle.time.proofs.Time.since.Reads as since-reads
+
+pulse-requires : tie.Need-pulse-requires
+pulse-requires c κs = search needs
+
+enum-told : tie.Need-enum-told
+enum-told c = search needs
+
+enum-known-open : tie.Need-enum-known-open
+enum-known-open c = search needs
+
+max-requires : tie.Need-max-requires
+max-requires c κs = search needs
+
+since-requires : tie.Need-since-requires
+since-requires c κs = search needs
+
+returns : tie.Need-returns
+unfolding settledBy expose span
+returns c = λ latch k. rw (← c .before .before .pulse .ensures, c .enum-told .given .1)
+
+returns-2 : tie.Need-returns-2
+unfolding settledBy exposure
+returns-2 c = λ latch k. rw (c .since .ensures, c .before .max .ensures, span-since, ← c .before .before .before .before .before .before .pulse .ensures, c .before .before .before .before .«open» .given .1)
+
+pub view-at-spec : {M : Type 1} → statement M
+view-at-spec =
+    tie.close
+    (tie.spec
+    pulse-requires
+    enum-told
+    enum-known-open
+    max-requires
+    since-requires
+    returns
+    returns-2)

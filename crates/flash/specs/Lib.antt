@@ -1,0 +1,4 @@
+pub mod Pages
+pub mod Settling
+pub mod Chip
+pub mod Looking

@@ -1,0 +1,22 @@
+// The flash: its registers and the page index of the charge store, and what each call does to them and to the lent array, charges and
+// event words.
+pub mod answering;
+pub mod ending;
+pub mod looking;
+pub mod pages;
+pub mod performing;
+pub mod permit;
+pub mod settling;
+pub mod verifying;
+
+use cell::PAGES;
+use registers::Registers;
+use time::Time;
+
+// The state but for what is lent. An entry of `indices` is 0 for a page without charges, and slot + 1 for a page with some.
+pub struct Flash {
+    pub registers: Registers,
+    pub pulse_since: Time,
+    pub sensed: [u8; 4],
+    pub indices: [u16; PAGES],
+}

@@ -1,0 +1,50 @@
+// The permit of normal reading: a struct that holds the array. It is made under normal reading alone, and read by two thin functions.
+ghost use mathlib.Core.Path.{_≡_};
+ghost use mathlib.Core.Bool.{true};
+ghost use Prim.Native.Nat.{suc, _+_, _*_, _<_};
+ghost use lib.ListN.{length};
+ghost use Rattle.cell.specs.Cell.{at};
+ghost use Rattle.registers.specs.Pulses.{normal};
+use registers::Registers;
+use time::Time;
+
+pub struct NormalRead<'a> {
+    array: &'a [u8],
+}
+
+// The permit shows the caller's own array, whole, and exists only under normal reading.
+pub fn normal_read<'a>(registers: Registers, time: Time, array: &'a [u8]) -> NormalRead<'a>
+    requires { ⌜ normal time registers ≡ true ⌝ }
+    ensures { λ r. ⌜ r .array ≡ array .entry ⌝ }
+{
+    NormalRead { array }
+}
+
+pub fn read_byte<'a>(permit: NormalRead<'a>, address: usize) -> u8
+    requires { ⌜ address < length (now (permit .array)) ⌝ }
+    ensures { λ r. ⌜ r ≡ at (now (permit .entry .array)) address ⌝ }
+{
+    permit.array[address]
+}
+
+// The word at an address, high byte first.
+fn word_at(array: &[u8], address: usize) -> u16
+    requires { ⌜ suc address < length (now array) ⌝ }
+    ensures { λ r. ⌜ r ≡ 256 * at (now (array .entry)) address + at (now (array .entry)) (suc address) ⌝ }
+{
+    256 * array[address] as u16 + array[address + 1] as u16
+}
+
+pub fn read_word<'a>(permit: NormalRead<'a>, address: usize) -> u16
+    requires { ⌜ suc address < length (now (permit .array)) ⌝ }
+    ensures { λ r. ⌜ r ≡ 256 * at (now (permit .entry .array)) address + at (now (permit .entry .array)) (suc address) ⌝ }
+{
+    word_at(permit.array, address)
+}
+
+pub fn serve_byte(registers: Registers, time: Time, array: &[u8], address: usize) -> u8
+    requires { ⌜ (normal time registers ≡ true) × (address < length (now array)) ⌝ }
+    ensures { λ r. ⌜ r ≡ at (now (array .entry)) address ⌝ }
+{
+    read_byte(normal_read(registers, time, array), address)
+}
