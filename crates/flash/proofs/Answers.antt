@@ -20,8 +20,8 @@ use Rattle.registers.specs.Access.{settled}
 use Rattle.registers.specs.Pulses.{powered, programPulse, erasePulse, pulse, isOpen, normal, tripped, read8}
 use Rattle.registers.specs.Calls.{settles, next}
 use Rattle.registers.proofs.Laws.{settled-fields, settled-pulse, settled-due, low-closed}
-use Rattle.flash.specs.Pages.{Cells}
-use Rattle.flash.specs.Settling.{sensedBy}
+use Rattle.settle.specs.Pages.{Cells}
+use Rattle.settle.specs.Settling.{sensedBy}
 use Rattle.flash.specs.Chip.{Chip, registers, sensedAt, stepIf, step, verified, unserved, byteRead, wordRead, answer, storedAnswer, settledAnswer}
 
 -- under an open pulse the low four bits are P or E, so neither PV nor EV is alone

@@ -1,8 +1,8 @@
 -- A fresh array: no page is opened, and each byte is the sensing of the charges that it stands for.
 -- Assumes nothing.
-use mathlib.Core.Path.{_≡_, refl, sym, _∙_}
+use mathlib.Core.Path.{_≡_, sym, _∙_}
 use mathlib.Core.List.{List}
-use Prim.Native.Nat.{ℕ, zero, suc, _+_, _*_, _/_, _%_, _<_}
+use Prim.Native.Nat.{ℕ, suc, _+_, _*_, _/_, _%_, _<_}
 use native.Mathlib.Omega.{arith}
 use native.Mathlib.Decide.{decLt}
 use lib.ListN.{length, replicate, length-replicate, getD-replicate, List·getD-eq-default}
@@ -10,15 +10,10 @@ use Rattle.cell.specs.declared.Sense.the-variants.{Normal}
 use Rattle.cell.specs.Cell.{at, bit, firstCharge}
 use Rattle.cell.proofs.Rule.{firstCharge-full}
 use Rattle.cell.proofs.Sensed.{sensedByte-same, first-sensed}
-use Rattle.flash.specs.Pages.{held, cellAt, opened}
-use Rattle.flash.specs.Settling.{normalByte}
+use Rattle.settle.specs.Pages.{held, cellAt}
+use Rattle.settle.specs.Settling.{normalByte}
 use Rattle.flash.specs.Chip.{noPages}
-use Rattle.flash.proofs.Expose.{Sound}
-
-pub none-opened : (n : ℕ) → opened (noPages n) ≡ 0
-unfolding opened noPages
-none-opened zero = refl
-none-opened (suc n) = none-opened n
+use Rattle.settle.proofs.Expose.{Sound}
 
 none-open : (n p : ℕ) → at (noPages n) p ≡ 0
 unfolding noPages

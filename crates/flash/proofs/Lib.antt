@@ -1,14 +1,8 @@
 pub mod Answers
-pub mod Charge
-pub mod Expose
 pub mod Fresh
+pub mod Inside
 pub mod Look
-pub mod Loop
-pub mod Page
 pub mod Performs
-pub mod Place
-pub mod Range
+pub mod Reading
 pub mod Room
-pub mod Slots
-pub mod Stored
-pub mod Turns
+pub mod Serving

@@ -2,25 +2,35 @@
 -- that is, where it is not 0 and covers the page. And the stores of a loop, one more at a time. Assumes nothing.
 use mathlib.Core.Path.{_≡_, refl, ap, sym, _∙_}
 use mathlib.Core.Bool.{Bool, true, false, cond, not, _&&_}
-use mathlib.Core.List.{List, [], _∷_, _++_}
-use Prim.Native.Nat.{ℕ, zero, suc, _+_, _-_, _/_, _<_}
-use native.Mathlib.Nat.{add-zero}
+use mathlib.Core.List.{List, [], _∷_}
+use Prim.Native.Nat.{ℕ, zero, suc, _+_, _-_, _*_, _/_, _<_}
 use native.Mathlib.Numerals.{add-one}
 use native.Mathlib.Omega.{arith}
 use lib.ListN.{length, set, take, length-take}
-use lib.Seq.{sets, take-suc}
+use lib.Seq.{sets, take-suc, take-length}
 use lib.Dec.{eqb, eqb·suc-zero}
-use Rattle.cell.specs.Cell.{at}
+use Rattle.time.specs.declared.Duration.{Duration}
+use Rattle.time.specs.Raw.{span}
+use Rattle.cell.specs.declared.Sense.the-variants.{Normal}
+use Rattle.cell.specs.Cell.{at, mapi, tabulate, sensedByte}
+use Rattle.cell.proofs.Maps.{getD-mapi}
+use Rattle.cell.proofs.Table.{entry}
+use Rattle.cell.proofs.Sensed.{sensedByte-same}
 use Rattle.registers.specs.declared.Pulse.{Pulse}
-use Rattle.flash.specs.Pages.{Cells, cellAt}
-use Rattle.flash.specs.Settling.{covers, charged, ruled, normalByte, expose}
+use Rattle.settle.proofs.Stored.{sets-append}
+use Rattle.settle.specs.Pages.{Cells, cellAt}
+use Rattle.settle.specs.Settling.{covers, charged, ruled, normalByte, expose}
 use Rattle.flash.specs.Looking.{exposedBy, allBlank}
-use Rattle.flash.proofs.Slots.{SlotsOf}
-use Rattle.flash.proofs.Expose.{resensed-here, resensed-else, expose-cell}
+use Rattle.settle.proofs.Slots.{SlotsOf}
+use Rattle.settle.proofs.Expose.{resensed-here, resensed-else, expose-cell}
 
 -- whether an exposure of l reaches page x
 abbrev pub reaches : Pulse → ℕ → ℕ → Bool
 reaches p l x = not (eqb l 0) && covers p x
+
+-- the array after an exposure, from what is lent
+abbrev pub seen : List ℕ → List ℕ → List ℕ → Pulse → List ℕ → Duration → List ℕ
+seen index array charges p latch d = expose p latch (span d) (record { index = index; array = array; charges = charges }) .array
 
 module _ (p : Pulse) (latch : List ℕ) where
   pub exposed-if : (l i q : ℕ) → exposedBy p latch l i q ≡ cond (reaches p l (i / 1024)) (charged p latch l i q) q
@@ -38,11 +48,27 @@ module _ (p : Pulse) (latch : List ℕ) where
   look-kept zero c a e = refl
   look-kept (suc l) c a e = resensed-else p _ (c .array) a (rw (eqb·suc-zero l) at e)
 
-  pub look-sensed : (l : ℕ) (c : Cells) (a : ℕ) → a < length (c .array) → reaches p l (a / 128) ≡ true
+  look-sensed : (l : ℕ) (c : Cells) (a : ℕ) → a < length (c .array) → reaches p l (a / 128) ≡ true
       → at (expose p latch l c .array) a ≡ normalByte (λ i. exposedBy p latch l i (cellAt c i)) a
   unfolding expose exposedBy
   look-sensed zero c a h e = absurd (let z : _≡_ {A = ℕ} 0 1 = cc in omega arith)
   look-sensed (suc l) c a h e = resensed-here p _ (c .array) a h (rw (eqb·suc-zero l) at e)
+
+  -- from the byte's cells, and those after the exposure
+  pub look-byte : (l : ℕ) (c : Cells) (a : ℕ) (cells moved : List ℕ) → a < length (c .array) → reaches p l (a / 128) ≡ true
+      → cells ≡ tabulate (λ k. cellAt c (8 * a + k)) 8 → moved ≡ mapi (λ k q. exposedBy p latch l (8 * a + k) q) 0 cells
+      → sensedByte Normal a (at moved) ≡ at (expose p latch l c .array) a
+  unfolding normalByte
+  look-byte l c a cells moved h e d m = rw (m, d) (sensedByte-same Normal a _ _ each) ∙ sym (look-sensed l c a h e)
+    where
+      g : ℕ → ℕ
+      g k = cellAt c (8 * a + k)
+
+      f : ℕ → ℕ → ℕ
+      f k q = exposedBy p latch l (8 * a + k) q
+
+      each : (k : ℕ) → k < 8 → at (mapi f 0 (tabulate g 8)) k ≡ f k (g k)
+      each k h = getD-mapi f (tabulate g 8) k h ∙ ap (f k) (entry g 8 k h)
 
 -- ---- a blank page, one byte after the other
 
@@ -56,13 +82,10 @@ blank-turn start i image h =
 
 -- ---- the stores of a loop, one after the other
 
-pub sets-append : (l : List ℕ) (i : ℕ) (xs ys : List ℕ) → sets l i (xs ++ ys) ≡ sets (sets l i xs) (i + length xs) ys
-sets-append l i [] ys = rw (add-zero i)
-sets-append l i (x ∷ xs) ys =
-    let e : i + suc (length xs) ≡ suc i + length xs = omega arith in
-    rw e (sets-append (set l i x) (suc i) xs ys)
-
-pub sets-turn : (l vs ys : List ℕ) (i v : ℕ) → i < length vs → ys ≡ sets l 0 (take i vs) → v ≡ at vs i → set ys i v ≡ sets l 0 (take (i + 1) vs)
-sets-turn l vs ys i v h e d =
+pub sets-turn : (l vs ys : List ℕ) (i v : ℕ) → ys ≡ sets l 0 (take i vs) → v ≡ at vs i → i < length vs → set ys i v ≡ sets l 0 (take (i + 1) vs)
+sets-turn l vs ys i v e d h =
     let n : 0 + length (take i vs) ≡ i = simp length-take (omega arith) in
     rw (d, e, add-one i, take-suc vs i 0, sets-append l 0 (take i vs) (at vs i ∷ []), n)
+
+pub sets-all : (l vs ys : List ℕ) (i : ℕ) → ys ≡ sets l 0 (take i vs) → i ≡ length vs → ys ≡ sets l 0 vs
+sets-all l vs ys i e d = e ∙ rw (d, take-length vs)

@@ -17,12 +17,12 @@ use Rattle.registers.specs.declared.OpenPulse.{OpenPulse}
 use Rattle.registers.specs.declared.Call.{Call}
 use Rattle.registers.specs.Pulses.{pulse}
 use Rattle.registers.specs.Calls.{settles, next}
-use Rattle.flash.specs.Pages.{slotsSound}
-use Rattle.flash.specs.Settling.{rangeBytes, changes, settledBy, endsOf, endWords, sensedBy, Left}
+use Rattle.settle.specs.Pages.{slotsSound}
+use Rattle.settle.specs.Settling.{rangeBytes, changes, settledBy, endsOf, endWords, sensedBy, Left}
 use Rattle.flash.specs.Chip.{Chip, registers, cells, settledAt, step, stepIf, sensedAfter, settledAnswer, storedAnswer, answerLimit, Fit, Performed}
-use Rattle.flash.proofs.Slots.{Slots, slots-from, slots-sound}
-use Rattle.flash.proofs.Expose.{settled-slots, settled-array-length}
-use Rattle.flash.proofs.Stored.{sets-append}
+use Rattle.settle.proofs.Slots.{Slots, slots-from, slots-sound}
+use Rattle.settle.proofs.Expose.{settled-slots, settled-array-length}
+use Rattle.settle.proofs.Stored.{sets-append}
 use Rattle.flash.proofs.Room.{changes-room}
 use Rattle.flash.proofs.Answers.{settled-value, stored-value}
 

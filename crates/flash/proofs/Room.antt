@@ -17,11 +17,11 @@ use Rattle.registers.specs.declared.OpenPulse.the-variants.{Closed, Open}
 use Rattle.registers.specs.declared.Call.{Call}
 use Rattle.registers.specs.Pulses.{pulse}
 use Rattle.registers.specs.Calls.{next, settles, ending, endingNumber}
-use Rattle.flash.specs.Pages.{Cells}
-use Rattle.flash.specs.Settling.{rangeBytes, exposure, expose, settledBy, word, changes, samePulse, endOf, ended, endsOf, endWords}
+use Rattle.settle.specs.Pages.{Cells}
+use Rattle.settle.specs.Settling.{rangeBytes, exposure, expose, settledBy, word, changes, samePulse, endOf, ended, endsOf, endWords}
 use Rattle.flash.specs.Chip.{Chip, registers, cells, settledAt, stepIf, step}
-use Rattle.flash.proofs.Loop.{changes-same}
-use Rattle.flash.proofs.Place.{changes-count, resensed-spanned}
+use Rattle.settle.proofs.Loop.{changes-same}
+use Rattle.settle.proofs.Place.{changes-count, resensed-spanned}
 
 -- ---- changed bytes
 

@@ -22,8 +22,8 @@ use Rattle.registers.specs.Pulses.{pulse, isOpen, normal}
 use Rattle.registers.specs.Environment.{fresh}
 use Rattle.registers.specs.Calls.{next, settles}
 use Rattle.flash.specs.declared.Flash.{Flash}
-use Rattle.flash.specs.Pages.{Cells, slotsSound}
-use Rattle.flash.specs.Settling.{rangeEnd, senseAddress, settledBy, changes, endWords, sensedBy}
+use Rattle.settle.specs.Pages.{Cells, slotsSound}
+use Rattle.settle.specs.Settling.{rangeEnd, senseAddress, settledBy, changes, endWords, sensedBy}
 
 pub record Chip : Type 0 where
   pub flash : Flash

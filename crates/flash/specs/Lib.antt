@@ -1,4 +1,2 @@
-pub mod Pages
-pub mod Settling
 pub mod Chip
 pub mod Looking

@@ -8,8 +8,8 @@ use lib.Dec.{eqb}
 use Rattle.time.specs.declared.Time.{Time}
 use Rattle.cell.specs.Cell.{pageBytes, at}
 use Rattle.registers.specs.declared.Pulse.{Pulse}
-use Rattle.flash.specs.Pages.{cellAt}
-use Rattle.flash.specs.Settling.{ruled}
+use Rattle.settle.specs.Pages.{cellAt}
+use Rattle.settle.specs.Settling.{ruled}
 use Rattle.flash.specs.Chip.{Chip, settledAt}
 
 -- the charge q of cell i after an exposure of l, where one of 0 leaves any charge as it is

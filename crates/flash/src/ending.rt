@@ -5,8 +5,7 @@ ghost use lib.ListN.{length};
 ghost use lib.Seq.{sets};
 ghost use Rattle.cell.specs.Cell.{pageBytes, pages};
 ghost use Rattle.registers.specs.Calls.{ending, endingNumber};
-ghost use Rattle.flash.specs.Settling.{sameDirection, samePulse, endsOf, rangeBytes, rangeEnd, word};
-use crate::settling::word;
+ghost use Rattle.settle.specs.Settling.{sameDirection, samePulse, endsOf, rangeBytes, rangeEnd, word};
 use cell::Direction;
 use cell::PAGE;
 use registers::Call;
@@ -14,6 +13,7 @@ use registers::OpenPulse;
 use registers::Pulse;
 use registers::calls::ending;
 use registers::calls::ending_number;
+use settle::settling::word;
 
 // Bytes of a page, in an event word.
 const PAGE_BYTES: u64 = PAGE as u64;

@@ -2,11 +2,10 @@
 // event words.
 pub mod answering;
 pub mod ending;
+pub mod imaging;
 pub mod looking;
-pub mod pages;
 pub mod performing;
 pub mod permit;
-pub mod settling;
 pub mod verifying;
 
 use cell::PAGES;

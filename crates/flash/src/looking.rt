@@ -8,12 +8,11 @@ ghost use lib.Dec.{eqb};
 ghost use Rattle.time.specs.Raw.{span};
 ghost use Rattle.cell.specs.Cell.{arrayCells};
 ghost use Rattle.registers.specs.Pulses.{pulse};
-ghost use Rattle.flash.specs.Pages.{Cells};
-ghost use Rattle.flash.specs.Settling.{covers, expose, settledBy};
+ghost use Rattle.settle.specs.Pages.{Cells};
+ghost use Rattle.settle.specs.Settling.{covers, expose, settledBy};
 ghost use Rattle.flash.specs.Chip.{Fit};
 ghost use Rattle.flash.specs.Looking.{exposedBy, chargeAt};
 use crate::Flash;
-use crate::pages::cell_at;
 use cell::Direction;
 use cell::PAGE;
 use cell::PAGE_CELLS;
@@ -22,6 +21,7 @@ use cell::charging::expose;
 use registers::OpenPulse;
 use registers::Pulse;
 use registers::Registers;
+use settle::pages::cell_at;
 use time::Duration;
 use time::Time;
 
@@ -64,7 +64,7 @@ fn covers(pulse: Pulse, page: usize) -> bool
     (first <= page) & (page < end)
 }
 
-// Whether an exposure opens a page, or finds it opened: one of 0 does nothing.
+// Whether an exposure reaches a page: one of 0 reaches none.
 pub fn reaches(pulse: Pulse, exposure: Duration, page: usize) -> bool
     ensures { λ r. ⌜ r ≡ (not (eqb (span exposure) 0) && covers pulse page) ⌝ }
 {

@@ -6,15 +6,15 @@ ghost use lib.ListN.{length};
 ghost use Rattle.time.specs.Raw.{beforeLastSecond};
 ghost use Rattle.registers.specs.Pulses.{pulse};
 ghost use Rattle.registers.specs.Calls.{settles};
-ghost use Rattle.flash.specs.Settling.{rangeBytes};
+ghost use Rattle.settle.specs.Settling.{rangeBytes};
 ghost use Rattle.flash.specs.Chip.{placed, sensedAfter, Fit, Performed};
 use crate::Flash;
 use crate::answering::settled_answer;
 use crate::answering::stored_answer;
 use crate::ending::end_pulse;
-use crate::settling::settle;
 use crate::verifying::sense;
 use registers::Call;
+use settle::settling::settle;
 use time::Time;
 
 // The state after a call, its answer, and the number of event words given.

@@ -4,9 +4,8 @@ ghost use mathlib.Core.Bool.{true};
 ghost use Prim.Native.Nat.{_<_, _≤_, _+_};
 ghost use lib.ListN.{length};
 ghost use Rattle.cell.specs.Cell.{arrayBytes, arrayCells, pages};
-ghost use Rattle.flash.specs.Pages.{slotsSound};
-ghost use Rattle.flash.specs.Settling.{verifySense, senseAddress, fourSensed, sensedBy};
-use crate::pages::byte_cells;
+ghost use Rattle.settle.specs.Pages.{slotsSound};
+ghost use Rattle.settle.specs.Settling.{verifySense, senseAddress, fourSensed, sensedBy};
 use cell::Sense;
 use cell::sensing::ceilings;
 use cell::sensing::sense_byte;
@@ -15,6 +14,7 @@ use control::bits::EV;
 use control::bits::PV;
 use control::verify::sense_due;
 use registers::Registers;
+use settle::pages::byte_cells;
 use time::Time;
 
 // By which limit control senses.

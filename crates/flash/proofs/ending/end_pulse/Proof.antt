@@ -1,7 +1,7 @@
 -- `flash::ending::end_pulse` meets its contract: no word for the same pulse, for none or for an empty range, else one. Assumes nothing.
 use borrow.Author.Tests.{eq-eqb, ne-eqb}
 use mathlib.Core.Path.{refl, sym, _∙_}
-use Rattle.flash.specs.Settling.{ended, endOf}
+use Rattle.settle.specs.Settling.{ended, endOf}
 use native.Mathlib.Omega.{arith}
 use borrow.Author.Needs.{needs}
 use Rattle.flash.proofs.ending.end_pulse.Statement.{statement}

@@ -1,5 +1,5 @@
 -- `flash::ending::same_pulse` meets its contract: each pair of arms knows both pulses, by which the definition computes. Assumes nothing.
-use Rattle.flash.specs.Settling.{samePulse}
+use Rattle.settle.specs.Settling.{samePulse}
 use borrow.Author.Needs.{needs}
 use Rattle.flash.proofs.ending.same_pulse.Statement.{statement}
 use Rattle.flash.proofs.ending.same_pulse.Tie as tie

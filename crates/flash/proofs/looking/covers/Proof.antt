@@ -1,10 +1,9 @@
-use Rattle.flash.specs.Settling.{covers}
-use native.Mathlib.Omega.{arith}
+-- `flash::looking::covers` meets its contract, by its definition.
+-- Assumes nothing.
 use borrow.Author.Needs.{needs}
+use Rattle.settle.specs.Settling.{covers}
 use Rattle.flash.proofs.looking.covers.Statement.{statement}
 use Rattle.flash.proofs.looking.covers.Tie as tie
-use Rattle.flash.proofs.looking.covers.Reads as reads
-use Rattle.flash.proofs.looking.covers.Lts as lts
 
 cast-first : tie.Need-cast-first
 cast-first c = search needs

@@ -1,11 +1,8 @@
-use native.Mathlib.Omega.{arith}
+-- `flash::looking::reaches` meets its contract, from what its two tests ensure.
+-- Assumes nothing.
 use borrow.Author.Needs.{needs}
 use Rattle.flash.proofs.looking.reaches.Statement.{statement}
 use Rattle.flash.proofs.looking.reaches.Tie as tie
-use Rattle.flash.proofs.looking.reaches.Reads as reads
-use Rattle.flash.proofs.looking.reaches.Lts as lts
-use Rattle.flash.proofs.looking.covers.Reads as covers-reads
-use Rattle.time.proofs.Duration.is_zero.Reads as is-zero-reads
 
 is-zero-requires : tie.Need-is-zero-requires
 is-zero-requires c κs = search needs

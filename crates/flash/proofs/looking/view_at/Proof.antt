@@ -1,15 +1,11 @@
-use Rattle.flash.specs.Settling.{settledBy, expose, exposure}
+-- `flash::looking::view_at` meets its contract: without a pulse an exposure of 0 changes nothing, as a settle does; with one both
+-- exposures are the same number. Assumes nothing.
+use borrow.Author.Needs.{needs}
 use Rattle.time.proofs.Laws.{span-since}
 use Rattle.time.specs.Raw.{span}
-use native.Mathlib.Omega.{arith}
-use borrow.Author.Needs.{needs}
+use Rattle.settle.specs.Settling.{settledBy, expose, exposure}
 use Rattle.flash.proofs.looking.view_at.Statement.{statement}
 use Rattle.flash.proofs.looking.view_at.Tie as tie
-use Rattle.flash.proofs.looking.view_at.Reads as reads
-use Rattle.flash.proofs.looking.view_at.Lts as lts
-use Rattle.registers.proofs.Registers.pulse.Reads as pulse-reads
-use Rattle.time.proofs.Time.max.Reads as max-reads
-use Rattle.time.proofs.Time.since.Reads as since-reads
 
 pulse-requires : tie.Need-pulse-requires
 pulse-requires c κs = search needs
@@ -32,7 +28,9 @@ returns c = λ latch k. rw (← c .before .before .pulse .ensures, c .enum-told 
 
 returns-2 : tie.Need-returns-2
 unfolding settledBy exposure
-returns-2 c = λ latch k. rw (c .since .ensures, c .before .max .ensures, span-since, ← c .before .before .before .before .before .before .pulse .ensures, c .before .before .before .before .«open» .given .1)
+returns-2 c =
+    let o = c .before .before .before .before in
+    λ latch k. rw (c .since .ensures, c .before .max .ensures, span-since, ← o .before .before .pulse .ensures, o .«open» .given .1)
 
 pub view-at-spec : {M : Type 1} → statement M
 view-at-spec =

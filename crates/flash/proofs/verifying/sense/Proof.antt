@@ -1,6 +1,6 @@
 -- `flash::verifying::sense` meets its contract: its test is the definition's. Assumes nothing.
 use mathlib.Core.Path.{_∙_}
-use Rattle.flash.specs.Settling.{sensedBy}
+use Rattle.settle.specs.Settling.{sensedBy}
 use borrow.Author.Needs.{needs}
 use Rattle.flash.proofs.verifying.sense.Statement.{statement}
 use Rattle.flash.proofs.verifying.sense.Tie as tie

@@ -9,8 +9,8 @@ use Rattle.cell.specs.Cell.{at, tabulate, sensedByte}
 use Rattle.cell.proofs.Table.{entry}
 use Rattle.cell.proofs.Sensed.{sensedByte-same}
 use Rattle.cell.proofs.Partly.{partly, partly-turn, partly-all}
-use Rattle.flash.specs.Pages.{Cells, cellAt}
-use Rattle.flash.specs.Settling.{fourSensed}
+use Rattle.settle.specs.Pages.{Cells, cellAt}
+use Rattle.settle.specs.Settling.{fourSensed}
 use native.Mathlib.Omega.{arith}
 use Rattle.flash.proofs.verifying.sense_four.Statement.{statement}
 use Rattle.flash.proofs.verifying.sense_four.Tie as tie

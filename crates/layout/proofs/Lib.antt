@@ -1,0 +1,6 @@
+pub mod Widths
+pub mod Runs
+pub mod Packed
+pub mod Marks
+pub mod Back
+pub mod Accepted

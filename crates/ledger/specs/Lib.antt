@@ -1,0 +1,4 @@
+pub mod Words
+pub mod Ledger
+pub mod Lists
+pub mod Claim

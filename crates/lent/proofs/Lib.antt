@@ -1,0 +1,4 @@
+pub mod Fitted
+pub mod Tells
+pub mod Looks
+pub mod Copied
