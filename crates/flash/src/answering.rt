@@ -1,10 +1,13 @@
 // What reads answer: the stored bytes, or what a settle left in the sensed ones.
 ghost use mathlib.Core.Path.{_≡_};
-ghost use mathlib.Core.Bool.{true};
+ghost use mathlib.Core.Bool.{true, false};
 ghost use Prim.Native.Nat.{_<_};
 ghost use lib.ListN.{length};
 ghost use Rattle.cell.specs.Cell.{arrayBytes};
+ghost use Rattle.registers.specs.Calls.{settles};
 ghost use Rattle.flash.specs.Chip.{placed, verified, unserved, settledAnswer, storedAnswer, answerLimit};
+use crate::permit::serve_byte;
+use crate::permit::serve_word;
 use control::bits::EV;
 use control::bits::PV;
 use control::supplies::supply_number;
@@ -70,16 +73,16 @@ pub fn settled_answer(
     }
 }
 
-// The answer of a call that did not settle: a read that is normal shows the stored bytes.
-pub fn stored_answer(call: Call, array: &[u8]) -> u16
-    requires { ⌜ (placed call ≡ true) × (length (now array) ≡ arrayBytes) ⌝ }
+// The answer of a call that did not settle: such a read is normal, and the permit shows it the stored bytes.
+pub fn stored_answer(call: Call, registers: Registers, time: Time, array: &[u8]) -> u16
+    requires { ⌜ (settles call time registers ≡ false) × (placed call ≡ true) × (length (now array) ≡ arrayBytes) ⌝ }
     ensures { λ r. ⌜ (r ≡ storedAnswer call (now (array .entry))) × (r < answerLimit call) ⌝ }
 {
     match call {
         Call::WriteRegister(_, _) => 0,
         Call::Write8(_, _) => 0,
-        Call::Read8(a) => wide(array[a as usize]),
-        Call::Read16(a) => 256 * wide(array[a as usize]) + wide(array[a as usize + 1]),
+        Call::Read8(a) => wide(serve_byte(registers, time, array, a as usize)),
+        Call::Read16(a) => serve_word(registers, time, array, a as usize),
         Call::Protect => 0,
         Call::Reset => 0,
         Call::PowerOff => 0,

@@ -100,7 +100,7 @@ pub fn perform(
     if registers.settles(call, time) {
         return perform_settling(flash, array, charges, events, call, time);
     }
-    let value = stored_answer(call, array);
+    let value = stored_answer(call, registers, time, array);
     Done {
         flash: Flash {
             registers: registers.next(call, time),

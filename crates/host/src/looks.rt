@@ -71,11 +71,11 @@ pub extern "C" fn flash_peek(
 ) -> u32
     ensures { λ r. ⌜ (r ≡ peekRefusal address (record { 0 = seconds; 1 = fraction }) (record { bytes = now («record» .entry); array = now (array .entry); charges = now (charges .entry) })) × (now (value .exit) ≡ answered r (peekAnswer address (record { 0 = seconds; 1 = fraction }) (record { bytes = now («record» .entry); array = now (array .entry); charges = now (charges .entry) })) (now (value .entry))) ⌝ }
 {
-    let seen = see_byte(record, array, charges, address, Time(seconds, fraction));
-    if seen.number == 0 {
-        *value = seen.value;
+    let byte = see_byte(record, array, charges, address, Time(seconds, fraction));
+    if byte.number == 0 {
+        *value = byte.value;
     }
-    seen.number
+    byte.number
 }
 
 // The charge of a cell at a time.
@@ -92,7 +92,7 @@ pub extern "C" fn flash_cell_charge(
 ) -> u32
     ensures { λ r. ⌜ (r ≡ chargeRefusal address bit (record { 0 = seconds; 1 = fraction }) (record { bytes = now («record» .entry); array = now (array .entry); charges = now (charges .entry) })) × (now (charge .exit) ≡ answered r (chargeAnswer address bit (record { 0 = seconds; 1 = fraction }) (record { bytes = now («record» .entry); array = now (array .entry); charges = now (charges .entry) })) (now (charge .entry))) ⌝ }
 {
-    let seen = see_charge(
+    let cell = see_charge(
         record,
         array,
         charges,
@@ -100,10 +100,10 @@ pub extern "C" fn flash_cell_charge(
         bit,
         Time(seconds, fraction),
     );
-    if seen.number == 0 {
-        *charge = seen.value;
+    if cell.number == 0 {
+        *charge = cell.value;
     }
-    seen.number
+    cell.number
 }
 
 // Whether the page of an address is blank at a time.
@@ -119,11 +119,11 @@ pub extern "C" fn flash_blank_page(
 ) -> u32
     ensures { λ r. ⌜ (r ≡ blankRefusal address (record { 0 = seconds; 1 = fraction }) (record { bytes = now («record» .entry); array = now (array .entry); charges = now (charges .entry) })) × (now (blank .exit) ≡ answered r (blankAnswer address (record { 0 = seconds; 1 = fraction }) (record { bytes = now («record» .entry); array = now (array .entry); charges = now (charges .entry) })) (now (blank .entry))) ⌝ }
 {
-    let seen = see_blank(record, array, charges, address, Time(seconds, fraction));
-    if seen.number == 0 {
-        *blank = seen.value;
+    let page = see_blank(record, array, charges, address, Time(seconds, fraction));
+    if page.number == 0 {
+        *blank = page.value;
     }
-    seen.number
+    page.number
 }
 
 // The image at a time, at the beginning of the output.

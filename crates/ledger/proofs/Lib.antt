@@ -1,8 +1,12 @@
-pub mod Words
-pub mod Book
-pub mod Agree
-pub mod Values
-pub mod Kept
 pub mod Accepted
+pub mod Agree
+pub mod Book
 pub mod Carried
+pub mod Clear
 pub mod Demand
+pub mod Kept
+pub mod Programmed
+pub mod Twice
+pub mod Values
+pub mod Words
+pub mod Worked

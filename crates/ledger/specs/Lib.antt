@@ -2,3 +2,4 @@ pub mod Words
 pub mod Ledger
 pub mod Lists
 pub mod Claim
+pub mod Worked

@@ -4,4 +4,3 @@ pub mod Latch
 pub mod Pulses
 pub mod Environment
 pub mod Calls
-pub mod Worked

@@ -1,10 +1,10 @@
--- `flash::answering::stored_answer` meets its contract: each arm knows the call, by which the definition computes; its addresses lie
--- inside the array. Assumes nothing.
-use mathlib.Core.Path.{refl}
+-- `flash::answering::stored_answer` meets its contract: each arm knows the call, by which the definition computes; a read that did not
+-- settle is normal, and its addresses lie inside the array. Assumes nothing.
+use borrow.Author.Tests.{ltb-true, not-false}
 use lib.Dec.{lit<}
-use native.Mathlib.Numerals.{add-one}
+use mathlib.Core.Path.{refl, _∙_}
 use Prim.Native.Nat.{suc, _<_}
-use borrow.Author.Tests.{ltb-true}
+use Rattle.registers.specs.Calls.{settles}
 use native.Mathlib.Omega.{arith}
 use borrow.Author.Needs.{needs}
 use Rattle.flash.proofs.answering.stored_answer.Statement.{statement}
@@ -19,13 +19,14 @@ enum-told-2 c = search needs
 enum-known-call : tie.Need-enum-known-call
 enum-known-call c = search needs
 
-cast-wide : tie.Need-cast-wide
-cast-wide c = search needs
+cast-serve-byte : tie.Need-cast-serve-byte
+cast-serve-byte c = search needs
 
-shared-slice-read-wide : tie.Need-shared-slice-read-wide
-shared-slice-read-wide c =
-    let b5 = c .before .before .before .before .before in
-    let h : c .before .before .call .given .0 .0 < 49152 = ltb-true _ 49152 (rw (c .before .before .call .given .1) at (b5 .pre .0)) in omega (arith, b5 .pre .1)
+serve-byte-requires : tie.Need-serve-byte-requires
+unfolding settles
+serve-byte-requires c κs =
+    let b4 = c .before .before .before .before in
+    let p = b4 .pre in let h : c .before .call .given .0 .0 < 49152 = ltb-true _ 49152 (rw (c .before .call .given .1) at (p .1)) in (not-false _ (rw (c .before .call .given .1) at (p .0)), omega (arith, p .2))
 
 wide-requires : tie.Need-wide-requires
 wide-requires c κs = search needs
@@ -33,37 +34,14 @@ wide-requires c κs = search needs
 enum-known-call-2 : tie.Need-enum-known-call-2
 enum-known-call-2 c = search needs
 
-cast-wide-2 : tie.Need-cast-wide-2
-cast-wide-2 c = search needs
+cast-serve-word : tie.Need-cast-serve-word
+cast-serve-word c = search needs
 
-shared-slice-read-wide-2 : tie.Need-shared-slice-read-wide-2
-shared-slice-read-wide-2 c =
-    let b5 = c .before .before .before .before .before in
-    let h : suc (c .before .before .call2 .given .0 .0) < 49152 = ltb-true _ 49152 (rw (c .before .before .call2 .given .1) at (b5 .pre .0)) in omega (arith, b5 .pre .1)
-
-wide-requires-2 : tie.Need-wide-requires-2
-wide-requires-2 c κs = search needs
-
-mul-result : tie.Need-mul-result
-mul-result c = search needs
-
-cast-wide-3 : tie.Need-cast-wide-3
-cast-wide-3 c = search needs
-
-add-wide : tie.Need-add-wide
-add-wide c = search needs
-
-shared-slice-read-wide-3 : tie.Need-shared-slice-read-wide-3
-shared-slice-read-wide-3 c =
+serve-word-requires : tie.Need-serve-word-requires
+unfolding settles
+serve-word-requires c κs =
     let b4 = c .before .before .before .before in
-    let b7 = b4 .before .before .before in
-    let h : suc (b4 .call2 .given .0 .0) < 49152 = ltb-true _ 49152 (rw (b4 .call2 .given .1) at (b7 .pre .0)) in omega (arith, b7 .pre .1)
-
-wide-requires-3 : tie.Need-wide-requires-3
-wide-requires-3 c κs = search needs
-
-add-result : tie.Need-add-result
-add-result c = search needs
+    let p = b4 .pre in let h : suc (c .before .call2 .given .0 .0) < 49152 = ltb-true _ 49152 (rw (c .before .call2 .given .1) at (p .1)) in (not-false _ (rw (c .before .call2 .given .1) at (p .0)), omega (arith, p .2))
 
 enum-told-3 : tie.Need-enum-told-3
 enum-told-3 c = search needs
@@ -86,12 +64,12 @@ returns-2 c = rw (c .enum-told2 .given .1) (refl, lit< tt)
 returns-3 : tie.Need-returns-3
 returns-3 c =
     let b3 = c .before .before .before in
-    rw (b3 .call .given .1) (c .wide .ensures .0, c .wide .ensures .1)
+    rw (b3 .call .given .1) (c .wide .ensures .0 ∙ c .before .serve-byte .ensures, c .wide .ensures .1)
 
 returns-4 : tie.Need-returns-4
 returns-4 c =
-    let b5 = c .before .before .before .before .before in
-    let h = c .wide3 .ensures .1 in let k = c .before .before .wide2 .ensures .1 in rw (b5 .call2 .given .1) (rw (c .wide3 .ensures .0, c .before .before .wide2 .ensures .0, add-one), omega arith)
+    let b4 = c .before .before .before .before in
+    let k = b4 .shared-slice-known .given in let a = c .before .before .call2 .given .0 .0 in let e = c .serve-word .ensures in rw (c .before .before .call2 .given .1) (e, omega (arith, k a, k (suc a), e))
 
 returns-5 : tie.Need-returns-5
 returns-5 c = rw (c .enum-told3 .given .1) (refl, lit< tt)
@@ -112,19 +90,12 @@ stored-answer-spec =
     enum-told
     enum-told-2
     enum-known-call
-    cast-wide
-    shared-slice-read-wide
+    cast-serve-byte
+    serve-byte-requires
     wide-requires
     enum-known-call-2
-    cast-wide-2
-    shared-slice-read-wide-2
-    wide-requires-2
-    mul-result
-    cast-wide-3
-    add-wide
-    shared-slice-read-wide-3
-    wide-requires-3
-    add-result
+    cast-serve-word
+    serve-word-requires
     enum-told-3
     enum-told-4
     enum-told-5

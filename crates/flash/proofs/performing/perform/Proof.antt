@@ -32,7 +32,7 @@ returns c =
 stored-answer-requires : tie.Need-stored-answer-requires
 stored-answer-requires c κs =
     let b7 = c .before .before .before .before .before .before .before in
-    let p = b7 .pre in (p .1, p .0 .array-long)
+    let p = b7 .pre in (sym (c .before .before .settles .ensures) ∙ c .before .if1 .left, p .1, p .0 .array-long)
 
 next-requires : tie.Need-next-requires
 next-requires c κs =

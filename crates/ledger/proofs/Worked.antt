@@ -1,18 +1,18 @@
--- The worked instants (a) to (g) of document 01 hold of the definitions: the numbers by computation, the erase writes because settling
--- leaves control as it is.
--- Assumes nothing.
+-- The worked instants of document 01 hold of the definitions: the numbers by computation, the erase writes because settling leaves control
+-- as it is, and (h) by `Programmed`. Assumes nothing.
 use mathlib.Core.Path.{_≡_, refl, ap, _∙_}
 use mathlib.Core.Bool.{true}
 use Prim.Native.Nat.{ℕ}
 use Rattle.time.specs.declared.Time.{Time}
 use Rattle.cell.specs.Cell.{classOf, limitOf, exposed, moved}
 use Rattle.registers.specs.declared.Registers.{Registers}
 use Rattle.control.specs.Bits.{EBR1, SWE, has, eraseValue}
 use Rattle.registers.specs.Access.{settled, registerSet, writeRegister}
 use Rattle.control.specs.Blocks.{eraseRange}
-use Rattle.registers.specs.Worked.{Worked}
 use Rattle.registers.proofs.Laws.{settled-fields}
 use Rattle.registers.proofs.Tests.{cond-yes}
+use Rattle.ledger.specs.Worked.{Worked}
+use Rattle.ledger.proofs.Programmed.{programmed}
 
 -- a write to F023 while enabled and with SWE stores the erase value
 erase-stored : (v : ℕ) (now : Time) (r : Registers) → r .enabled ≡ true → has (r .control) SWE ≡ true → writeRegister EBR1 v now r .erase ≡ eraseValue v
@@ -32,4 +32,5 @@ worked =
       e = (refl, refl);
       f = λ latched. (refl, refl);
       g = λ now r e s. (erase-stored 3 now r e s, erase-stored 64 now r e s, refl);
+      h = programmed;
     }
