@@ -37,10 +37,6 @@ room-le k n h = by (decLe 1 k)
 module _ (now : Time) (k : Chip) (fit : Fit k) (o : OpenPulse) (open-is : o ≡ pulse (registers k)) {lent index array charges events : List ℕ} {count : ℕ}
     (left : Left (settledBy o (registers k .latch) (k .flash .«pulse_since») now (cells k))
     (changes 0 (k .array) (settledBy o (registers k .latch) (k .flash .«pulse_since») now (cells k) .array)) lent index array charges events count) where
-  -- the settle by the state's own pulse
-  settled-is : settledBy o (registers k .latch) (k .flash .«pulse_since») now (cells k) ≡ settledAt now k
-  settled-is = rw open-is
-
   slots-left : Slots index charges
   slots-left =
       rw (left .index-is, left .charges-is)

@@ -149,15 +149,10 @@ module _ {k : Chip} {led : Ledger} (c : Call) (now : Time) (a : Agree k led) whe
       by true e = loud-step h
       by false e = quiet-step e
 
--- a call that settles does so now; another leaves last settling and array
+-- a call that settles does so now; another leaves the array
 pub step-now : (c : Call) (now : Time) (k : Chip) → settles c now (registers k) ≡ true → step c now k .chip .flash .«pulse_since» ≡ now
 unfolding step stepIf
 step-now c now k e = rw e
-
-pub step-since : (c : Call) (now : Time) (k : Chip) → settles c now (registers k) ≡ false
-    → step c now k .chip .flash .«pulse_since» ≡ k .flash .«pulse_since»
-unfolding step stepIf
-step-since c now k e = rw e
 
 pub step-array : (c : Call) (now : Time) (k : Chip) → settles c now (registers k) ≡ false → step c now k .chip .array ≡ k .array
 unfolding step stepIf

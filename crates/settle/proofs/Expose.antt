@@ -16,7 +16,7 @@ use Rattle.time.proofs.Laws.{raw-later}
 use Rattle.cell.specs.declared.Direction.{Direction}
 use Rattle.cell.specs.declared.Direction.the-variants.{Program, Erase}
 use Rattle.cell.specs.declared.Sense.the-variants.{Normal}
-use Rattle.cell.specs.Cell.{FULL, at, bit, firstCharge, pageBit, moved, exposed, sensedByte}
+use Rattle.cell.specs.Cell.{FULL, at, bit, firstCharge, pageBit, moved, exposed}
 use Rattle.cell.proofs.Maps.{length-mapi, getD-mapi}
 use Rattle.cell.proofs.Rule.{exposures-add, exposed-full}
 use Rattle.cell.proofs.Sensed.{sensedByte-same}
@@ -27,7 +27,6 @@ use Rattle.settle.specs.Pages.{Cells, held, cellAt, onPages}
 use Rattle.settle.specs.Settling.{exposure, covers, charged, ruled, normalByte, resensed, expose, settledBy}
 use Rattle.settle.proofs.Slots.{SlotsOf}
 use Rattle.settle.proofs.Range.{pages-slots, pages-array, pages-else, pages-here, pages-open}
-use Rattle.settle.proofs.Loop.{slot-cell}
 use Rattle.settle.proofs.Place.{mapi-keeps}
 
 -- ---- time
@@ -172,11 +171,6 @@ expose-cell p latch l c inv i h = by (whether p (i / 1024))
         ∙ ap (λ xs. held (at (new .index) (i / 1024)) xs (new .charges) i) (sym (pages-array f (p .pages) (p .first) c))
         ∙ pages-else f (p .pages) (p .first) c inv i g ∙ sym (ruled-no p latch (suc l) i (cellAt c i) e)
 
-pub expose-cell-above : (p : Pulse) (latch : List ℕ) (l : ℕ) (c : Cells) → 0 < l → SlotsOf c → (i : ℕ) → i < 393216
-    → cellAt (expose p latch l c) i ≡ ruled p latch l i (cellAt c i)
-expose-cell-above p latch zero c k inv i h = absurd (omega arith)
-expose-cell-above p latch (suc l) c k inv i h = expose-cell p latch l c inv i h
-
 -- any exposure, 0 too, of a cell that is not past FULL
 pub expose-cell-full : (p : Pulse) (latch : List ℕ) (l : ℕ) (c : Cells) → SlotsOf c → (i : ℕ) → i < 393216 → cellAt c i ≤ FULL
     → cellAt (expose p latch l c) i ≡ ruled p latch l i (cellAt c i)
@@ -185,15 +179,6 @@ expose-cell-full p latch zero c inv i h k = sym (ruled-zero p latch i (cellAt c 
 expose-cell-full p latch (suc l) c inv i h k = expose-cell p latch l c inv i h
 
 -- ---- what a loop over the pages senses
-
--- a page with slot s, from the 1,024 charges of its slot
-pub page-sensed : (c : Cells) (x s : ℕ) (cells : List ℕ) → at (c .index) x ≡ suc s → ((j : ℕ) → j < 1024 → at cells j ≡ at (c .charges) (s * 1024 + j))
-    → (b : ℕ) → b < 128 → sensedByte Normal (x * 128 + b) (λ k. at cells (8 * b + k)) ≡ normalByte (cellAt c) (x * 128 + b)
-unfolding normalByte
-page-sensed c x s cells e same b h =
-    sensedByte-same Normal (x * 128 + b) _ _
-    (λ k m. let d : 8 * (x * 128 + b) + k ≡ x * 1024 + (8 * b + k) = omega arith in
-    same (8 * b + k) (omega arith) ∙ sym (ap (cellAt c) d ∙ slot-cell c x s e (8 * b + k) (omega arith)))
 
 -- after the first n pages of the range, each byte of theirs
 pub pages-sensed : (p : Pulse) (latch : List ℕ) (l : ℕ) (c : Cells) → SlotsOf c → (n : ℕ) → n ≤ p .pages

@@ -56,11 +56,6 @@ module _ (c : Cells) (xs : List ℕ) where
       slot-same (slotFor (c .index) p) _ _ (c .charges)
       (λ j l. ap (f (p * 1024 + j)) (cell-own (p * 1024 + j) (h ((p * 1024 + j) / 8) (omega arith))))
 
-  -- and the index is from neither
-  pub index-own : (f : ℕ → ℕ → ℕ) (p : ℕ) → onPage f p c .index ≡ onPage f p (withArray xs c) .index
-  unfolding onPage
-  index-own f p = refl
-
 -- ---- a page by its slot
 
 slot-twice : (s : ℕ) (f g : ℕ → ℕ → ℕ) (qs : List ℕ) → onSlot s f (onSlot s g qs) ≡ onSlot s (λ j q. f j (g j q)) qs
