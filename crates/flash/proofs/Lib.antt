@@ -3,6 +3,4 @@ pub mod Fresh
 pub mod Inside
 pub mod Look
 pub mod Performs
-pub mod Reading
 pub mod Room
-pub mod Serving

@@ -5,7 +5,6 @@ pub mod ending;
 pub mod imaging;
 pub mod looking;
 pub mod performing;
-pub mod permit;
 pub mod verifying;
 
 use cell::PAGES;

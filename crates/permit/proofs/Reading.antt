@@ -40,9 +40,9 @@ use denote.Triple.Walked.{says, needs, Stays, stay-dropped, walkOf, goes-dropped
 use denote.Triple.Clauses.{Ended, Clauses, ensured, lasts, closing}
 use denote.Exit.{yes}
 use Rattle.cell.specs.Cell.{at}
-use Rattle.flash.specs.declared.permit.NormalRead.{NormalRead}
-use Rattle.flash.proofs.permit.NormalRead as T
-use Rattle.flash.proofs.permit.NormalRead.Laws as T′
+use Rattle.permit.specs.declared.NormalRead.{NormalRead}
+use Rattle.permit.proofs.NormalRead as T
+use Rattle.permit.proofs.NormalRead.Laws as T′
 
 -- the permit's type, over the signature's lifetimes
 abbrev pub B : Lfts 1 → RattleType

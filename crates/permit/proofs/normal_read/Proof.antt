@@ -1,4 +1,4 @@
--- `flash::permit::normal_read` meets its contract: a walk of its MIR, by hand. The permit is made of the slice passed, in the result's
+-- `permit::normal_read` meets its contract: a walk of its MIR, by hand. The permit is made of the slice passed, in the result's
 -- local; registers and time are passed for the `requires` alone, and the code does not look at them. What the slice owns goes into the permit,
 -- and at exit nothing is wanted of the parameters.
 -- Assumes nothing.
@@ -42,13 +42,13 @@ use Rattle.time.proofs.Time.Laws as Z′
 use Rattle.registers.specs.declared.Registers.{Registers}
 use Rattle.registers.proofs.Registers as R
 use Rattle.registers.proofs.Registers.Laws as R′
-use Rattle.flash.specs.declared.permit.NormalRead.{NormalRead}
-use Rattle.flash.proofs.permit.NormalRead as T
-use Rattle.flash.proofs.permit.NormalRead.Laws as T′
-use Rattle.flash.proofs.permit.normal_read.Key.{name as #normal-read}
-use Rattle.flash.proofs.permit.normal_read as made
-use Rattle.flash.proofs.permit.normal_read.Statement as stated
-use Rattle.flash.proofs.permit.normal_read.Code as code
+use Rattle.permit.specs.declared.NormalRead.{NormalRead}
+use Rattle.permit.proofs.NormalRead as T
+use Rattle.permit.proofs.NormalRead.Laws as T′
+use Rattle.permit.proofs.normal_read.Key.{name as #normal-read}
+use Rattle.permit.proofs.normal_read as made
+use Rattle.permit.proofs.normal_read.Statement as stated
+use Rattle.permit.proofs.normal_read.Code as code
 
 abbrev stayed : Stays (made.ended .signature .params) (made.ended .kept)
 stayed = (

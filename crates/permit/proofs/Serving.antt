@@ -45,12 +45,12 @@ use Rattle.registers.specs.declared.Registers.{Registers}
 use Rattle.registers.specs.Pulses.{normal}
 use Rattle.registers.proofs.Registers as R
 use Rattle.registers.proofs.Registers.Laws as R′
-use Rattle.flash.specs.declared.permit.NormalRead.{NormalRead}
-use Rattle.flash.proofs.permit.NormalRead as T
-use Rattle.flash.proofs.permit.NormalRead.Laws as T′
-use Rattle.flash.proofs.permit.normal_read as made
-use Rattle.flash.proofs.permit.normal_read.Symbol.{name as #normal-read}
-use Rattle.flash.proofs.Reading.{B, permitted, of-permit, OfPermit}
+use Rattle.permit.specs.declared.NormalRead.{NormalRead}
+use Rattle.permit.proofs.NormalRead as T
+use Rattle.permit.proofs.NormalRead.Laws as T′
+use Rattle.permit.proofs.normal_read as made
+use Rattle.permit.proofs.normal_read.Symbol.{name as #normal-read}
+use Rattle.permit.proofs.Reading.{B, permitted, of-permit, OfPermit}
 
 module _ (w : Width) where
   abbrev pub served : Ended

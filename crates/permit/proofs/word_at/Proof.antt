@@ -1,11 +1,11 @@
--- `flash::permit::word_at` meets its contract: each byte of the array is below 256, so the word fits.
+-- `permit::word_at` meets its contract: each byte of the array is below 256, so the word fits.
 -- Assumes nothing.
 use native.Mathlib.Numerals.{unary-clauses}
 use Prim.Native.Nat.{ℕ, _+_}
 use borrow.Author.Needs.{needs}
 use native.Mathlib.Omega.{arith}
-use Rattle.flash.proofs.permit.word_at.Statement.{statement}
-use Rattle.flash.proofs.permit.word_at.Tie as tie
+use Rattle.permit.proofs.word_at.Statement.{statement}
+use Rattle.permit.proofs.word_at.Tie as tie
 
 shared-slice-read-result : tie.Need-shared-slice-read-result
 shared-slice-read-result c = search needs
