@@ -58,7 +58,11 @@ enum flash_refusal {
     FLASH_LAST_SECOND = 5,     /* the whole seconds are 2^64 - 1 */
     FLASH_BEFORE_SETTLING = 6, /* the time is before the last settling */
     FLASH_FEW_EVENTS = 7,      /* a pulse over k > 0 bytes is open, and there are fewer than k + 1 words */
-    FLASH_SHORT_OUTPUT = 8     /* the output is too short */
+    FLASH_SHORT_OUTPUT = 8,    /* the output is too short */
+    FLASH_ENDS_EARLY = 9,      /* a snapshot ends before its last field does */
+    FLASH_BAD_FIELD = 10,      /* a field of a snapshot holds what it can't */
+    FLASH_LEFT_OVER = 11,      /* a snapshot goes on after its last field */
+    FLASH_NOT_VALID = 12       /* flash_validate says no to a snapshot's state */
 };
 
 /* What an event word is about: kind * 2^32 + address * 2^16 + value or length. */
@@ -166,6 +170,31 @@ uint32_t flash_blank_page(const uint8_t *record, size_t record_len, const uint8_
 uint32_t flash_image(const uint8_t *record, size_t record_len, const uint8_t *array,
                      size_t array_len, const uint64_t *charges, size_t charges_len,
                      uint64_t seconds, uint64_t fraction, uint8_t *out, size_t out_len);
+
+/*
+ * Snapshots: a state as one string of bytes, in the Borsh format. FLASH_SNAPSHOT_BYTES with no charge
+ * page, FLASH_SNAPSHOT_PAGE_BYTES more for each, FLASH_SNAPSHOT_PENDING_BYTES more with a pending sense.
+ */
+#define FLASH_SNAPSHOT_BYTES 49412u
+#define FLASH_SNAPSHOT_PAGE_BYTES 8194u
+#define FLASH_SNAPSHOT_PENDING_BYTES 18u
+
+/* Whether the state is one that reading a snapshot at the time would accept, 1 or 0. Refusals 2, 3
+ * (but not for what it tests itself), 5. */
+uint32_t flash_validate(const uint8_t *record, size_t record_len, uint64_t seconds,
+                        uint64_t fraction, uint8_t *valid);
+
+/* The snapshot, into the first bytes of out, and how many they are. Refusals 2, 3, 8. */
+uint32_t flash_write_snapshot(const uint8_t *record, size_t record_len, const uint8_t *array,
+                              size_t array_len, const uint64_t *charges, size_t charges_len,
+                              uint8_t *out, size_t out_len, uint64_t *length);
+
+/* The state that a snapshot holds, into record, array and the charge slots that it uses. Refusals 2,
+ * 5, 9 (it ends early), 10 (a field that is none), 11 (bytes left over), 12 (flash_validate says no
+ * at the time); what the record held before does not matter. */
+uint32_t flash_read_snapshot(const uint8_t *bytes, size_t bytes_len, uint8_t *record,
+                             size_t record_len, uint8_t *array, size_t array_len, uint64_t *charges,
+                             size_t charges_len, uint64_t seconds, uint64_t fraction);
 
 #ifdef __cplusplus
 }

@@ -15,7 +15,8 @@ use Rattle.settle.specs.Settling.{normalByte}
 use Rattle.flash.specs.Chip.{noPages}
 use Rattle.settle.proofs.Expose.{Sound}
 
-none-open : (n p : ℕ) → at (noPages n) p ≡ 0
+-- no page is opened
+pub none-open : (n p : ℕ) → at (noPages n) p ≡ 0
 unfolding noPages
 none-open n p = by (decLt p n)
   where

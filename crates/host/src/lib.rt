@@ -2,3 +2,4 @@
 // refusals included.
 pub mod calls;
 pub mod looks;
+pub mod snapshots;

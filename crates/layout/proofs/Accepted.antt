@@ -1,13 +1,14 @@
 -- What is accepted writes back, and the accepted records are those of sound states. `accepted` is taken apart into its tests; each test of a
 -- byte says that the byte is written as it was read. Assumes nothing.
 use mathlib.Core.Path.{_≡_, refl, sym, ap, _∙_}
-use mathlib.Core.Bool.{Bool, true, false, cond, _&&_, false≢true}
+use mathlib.Core.Bool.{Bool, true, false, cond, _&&_}
 use mathlib.Core.List.{List, [], _∷_}
 use Prim.Native.Nat.{ℕ, zero, suc, _%_, _<_}
 use native.Mathlib.Omega.{arith}
 use borrow.Author.Tests.{lt-ltb, leb-true, ltb-true, eqb-true}
 use lib.Dec.{ltb, eqb}
 use lib.ListN.{length}
+use Rattle.time.proofs.Bools.{both}
 use Rattle.time.specs.declared.Time.{Time}
 use Rattle.control.specs.declared.Mode.{Mode}
 use Rattle.control.specs.declared.Mode.the-variants.{Active, Subactive, Sleep, Subsleep, Watch, Standby}
@@ -27,23 +28,19 @@ use Rattle.layout.proofs.Back.{rows-encoded}
 
 -- ---- what an accepted record tells
 
-both : (a b : Bool) → (a && b) ≡ true → (a ≡ true) × (b ≡ true)
-both true b h = (refl, h)
-both false b h = absurd (false≢true h)
-
-flag-known : (b : ℕ) → flagKnown b ≡ true → flagByte (flagOf b) ≡ b
+pub flag-known : (b : ℕ) → flagKnown b ≡ true → flagByte (flagOf b) ≡ b
 flag-known zero h = refl
 flag-known (suc zero) h = refl
 flag-known (suc (suc b)) h = absurd (omega (arith, leb-true (suc (suc b)) 1 h))
 
-supply-known : (b : ℕ) → supplyKnown b ≡ true → supplyNumber (supplyOf b) ≡ b
+pub supply-known : (b : ℕ) → supplyKnown b ≡ true → supplyNumber (supplyOf b) ≡ b
 unfolding supplyOf
 supply-known zero h = refl
 supply-known (suc zero) h = refl
 supply-known (suc (suc zero)) h = refl
 supply-known (suc (suc (suc b))) h = absurd (omega (arith, leb-true (suc (suc (suc b))) 2 h))
 
-mode-known : (b : ℕ) → modeKnown b ≡ true → modeNumber (modeOf b) ≡ b
+pub mode-known : (b : ℕ) → modeKnown b ≡ true → modeNumber (modeOf b) ≡ b
 unfolding modeOf
 mode-known zero h = refl
 mode-known (suc zero) h = refl
@@ -148,11 +145,16 @@ accepted-writes-back xs l b h = ap (packed layout) (rows-back xs (accepted-tests
 
 -- ---- accepted records are those of sound states
 
+pub placed-says : (a step : ℕ) → placed a step ≡ true → (a % step ≡ 0) × (a < arrayBytes)
+placed-says a step e =
+    let p = both (eqb (a % step) 0) (ltb a arrayBytes) e in
+    (eqb-true (a % step) 0 (p .0), ltb-true a arrayBytes (p .1))
+
 pending-sound : (b a : ℕ) (t : Time) → placed a 4 ≡ true → PendingSound (pendingOf b a t)
 pending-sound b a t h = by (eqb b 1)
   where
     by : (c : Bool) → PendingSound (cond c (Sense a t) Nothing)
-    by true = let p = both (eqb (a % 4) 0) (ltb a arrayBytes) h in (eqb-true (a % 4) 0 (p .0), ltb-true a arrayBytes (p .1))
+    by true = placed-says a 4 h
     by false = tt
 
 pub accepted-sound : (xs : List ℕ) → accepted xs ≡ true → Sound (decoded xs)
@@ -160,11 +162,11 @@ unfolding decoded stateOf registersOf
 accepted-sound xs h =
     let t = accepted-tests xs h in
     let page = at (part (rowsIn xs) 1) 0 in
-    let p = both (eqb (page % pageBytes) 0) (ltb page arrayBytes) (t .page) in
+    let p = placed-says page pageBytes (t .page) in
     record {
       control = ltb-true (at (part (rowsIn xs) 0) 0) 128 (t .control);
-      page-aligned = eqb-true (page % pageBytes) 0 (p .0);
-      page-inside = ltb-true page arrayBytes (p .1);
+      page-aligned = p .0;
+      page-inside = p .1;
       pending = pending-sound (at (part (rowsIn xs) 0) 9) (at (part (rowsIn xs) 1) 1) (timeOf (part (rowsIn xs) 2) 14) (t .address);
       slots = t .slots;
     }
@@ -194,7 +196,7 @@ clear-told : (p : Pending) → nothingClear (optionByte p) (pendingAddress p) (p
 clear-told Nothing = refl
 clear-told (Sense a t) = refl
 
-placed-told : (a step : ℕ) → a % step ≡ 0 → a < arrayBytes → placed a step ≡ true
+pub placed-told : (a step : ℕ) → a % step ≡ 0 → a < arrayBytes → placed a step ≡ true
 placed-told a step e l = rw (e, lt-ltb a arrayBytes l)
 
 address-told : (p : Pending) → PendingSound p → placed (pendingAddress p) 4 ≡ true

@@ -15,7 +15,7 @@ use Rattle.layout.proofs.Widths.{length-bytes, word-shift, word-bytes, 
 
 -- ---- one row: written, then read
 
-row-shift : (n w : ℕ) (ps xs : List ℕ) (k : ℕ) → row n w (length ps + k) (ps ++ xs) ≡ row n w k xs
+pub row-shift : (n w : ℕ) (ps xs : List ℕ) (k : ℕ) → row n w (length ps + k) (ps ++ xs) ≡ row n w k xs
 unfolding row
 row-shift zero w ps xs k = refl
 row-shift (suc n) w ps xs k = rw (word-shift w ps xs k, add-assoc (length ps) k w, row-shift n w ps xs (k + w))

@@ -17,7 +17,7 @@ use cell::PAGES;
 use time::Time;
 
 // A page's bytes and the array's end, as an address has them.
-const PAGE_BYTES: u16 = PAGE as u16;
+pub const PAGE_BYTES: u16 = PAGE as u16;
 
 const END: u16 = FLASH_SIZE as u16;
 
@@ -43,7 +43,7 @@ fn nothing_clear(option: u8, address: u16, instant: Time) -> bool
 }
 
 // An address is aligned to a step, and not past the end.
-fn placed(address: u16, step: u16) -> bool
+pub fn placed(address: u16, step: u16) -> bool
     requires { ⌜ 1 ≤ step ⌝ }
     ensures { λ r. ⌜ r ≡ placed address step ⌝ }
 {

@@ -23,7 +23,7 @@ pub fn get16(s: &[u8], at: usize) -> u16
     wide(s[at]) + 256 * wide(s[at + 1])
 }
 
-fn get32(s: &[u8], at: usize) -> u32
+pub fn get32(s: &[u8], at: usize) -> u32
     requires { ⌜ at + 4 ≤ length (now s) ⌝ }
     ensures { λ r. ⌜ r ≡ word 4 (now (s .entry)) at ⌝ }
 {
@@ -50,7 +50,7 @@ pub fn put16(s: &mut [u8], at: usize, v: u16)
     s[at + 1] = (v / 256) as u8;
 }
 
-fn put32(s: &mut [u8], at: usize, v: u32)
+pub fn put32(s: &mut [u8], at: usize, v: u32)
     requires { ⌜ at + 4 ≤ length (now s) ⌝ }
     ensures { λ _. ⌜ take (at + 4) (now (s .exit)) ≡ take at (now (s .entry)) ++ bytes 4 v ⌝ }
 {

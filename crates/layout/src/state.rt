@@ -16,7 +16,7 @@ pub fn flag_byte(flag: bool) -> u8
     if flag { 1 } else { 0 }
 }
 
-fn supply_of(b: u8) -> Supply
+pub fn supply_of(b: u8) -> Supply
     ensures { λ r. ⌜ r ≡ supplyOf b ⌝ }
 {
     match b {

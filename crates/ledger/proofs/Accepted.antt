@@ -1,9 +1,9 @@
 -- What is known where no line of the table is given: each line's condition is false. So the words lent to an accepted call are enough
 -- for its events, and its words up to its count are these. Assumes nothing.
 use mathlib.Core.Path.{_≡_, refl}
-use mathlib.Core.Bool.{Bool, true, false, cond, _&&_}
+use mathlib.Core.Bool.{Bool, true, false, _&&_}
 use mathlib.Core.List.{List, [], _∷_, _++_}
-use Prim.Native.Nat.{ℕ, suc, _≤_, _<_}
+use Prim.Native.Nat.{ℕ, _≤_, _<_}
 use native.Mathlib.Omega.{arith}
 use borrow.Author.Tests.{ltb-false, leb-false, lt-ltb}
 use lib.Dec.{leb, ltb}
@@ -21,14 +21,10 @@ use Rattle.layout.specs.Layout.{refused3}
 use Rattle.lent.specs.declared.Request.{Request}
 use Rattle.lent.specs.Memory.{Memory, chipIn, Check, check, firstGiven, misfits, lastSecond, tooEarly, tooFewWords}
 use Rattle.lent.specs.Asked.{callOf, misplaced, refusal}
+use Rattle.lent.proofs.Lines.{line}
 use Rattle.lent.specs.Looked.{sizedChecks}
 
 -- ---- the lines
-
--- one line: its condition is false, and no later line is given
-pub line : (n : ℕ) (given : Bool) (later : ℕ) → cond given (suc n) later ≡ 0 → (given ≡ false) × (later ≡ 0)
-line n true later e = absurd (omega arith)
-line n false later e = (refl, e)
 
 -- lines 2 to 6 of any call or look, and what comes after them
 pub record Passed (misplaced : Bool) (t : Time) (m : Memory) (more : List Check) : Type 0 where

@@ -2,11 +2,12 @@
 -- last settling and then settled to a time is what is booked to that time. A pulse that opens now has booked nothing.
 -- Assumes nothing.
 use mathlib.Core.Path.{_≡_, refl, sym, ap, _∙_}
-use mathlib.Core.Bool.{Bool, true, false, _&&_, true≢false}
+use mathlib.Core.Bool.{true, false, _&&_, true≢false}
 use mathlib.Core.List.{List}
 use Prim.Native.Nat.{ℕ, _<_, _≤_}
 use borrow.Author.Tests.{eqb-true, eq-eqb}
 use lib.Dec.{eqb}
+use Rattle.time.proofs.Bools.{both}
 use Rattle.time.specs.declared.Time.{Time}
 use Rattle.time.specs.Raw.{raw}
 use Rattle.cell.specs.declared.Direction.{Direction}
@@ -21,10 +22,6 @@ use Rattle.settle.proofs.Expose.{Sound, exposures-join, no-exposure, ruled-zero
 use Rattle.ledger.specs.Ledger.{booked}
 
 -- ---- pulses that are the same
-
-both : (a b : Bool) → (a && b) ≡ true → (a ≡ true) × (b ≡ true)
-both true b e = (refl, e)
-both false b e = absurd (true≢false (sym e))
 
 same-direction : (d e : Direction) → sameDirection d e ≡ true → d ≡ e
 same-direction Program Program h = refl

@@ -16,7 +16,7 @@ use Rattle.flash.specs.Chip.{Chip, registers, step, answer}
 use Rattle.settle.proofs.Loop.{changes-same}
 use Rattle.layout.specs.Layout.{recordLength, accepted}
 use Rattle.layout.specs.Whole.{TimeFits, Fits, Sound}
-use Rattle.layout.proofs.Back.{written-reads-back, length-encoded}
+use Rattle.layout.proofs.Back.{written-reads-back, length-encoded, bytes-encoded}
 use Rattle.layout.proofs.Accepted.{accepted-encoded}
 use Rattle.lent.specs.Memory.{Memory, chipIn, memoryOf}
 use Rattle.lent.specs.Asked.{Outcome, callOf, misplaced, refusal, outcomeBy, outcome}
@@ -31,9 +31,10 @@ use Rattle.ledger.proofs.Accepted.{Passed, wordsLine, call-passed, enou
 
 -- ---- between calls
 
--- The record has its length and is accepted, what it says is in range and allowed, and the chip in memory agrees with the ledger.
+-- The record is of bytes, has its length and is accepted, what it says is in range and allowed, and the chip in memory agrees with the ledger.
 pub record Carries (m : Memory) (led : Ledger) : Type 0 where
   pub long : length (m .bytes) ≡ recordLength
+  pub bytes : (b : ℕ) → at (m .bytes) b < 256
   pub known : accepted (m .bytes) ≡ true
   pub fits : Fits (chipIn m .flash)
   pub sound : Sound (chipIn m .flash)
@@ -45,6 +46,7 @@ carries k led f s a =
     let back = written-reads-back (k .flash) f in
     record {
       long = length-encoded (k .flash) f;
+      bytes = bytes-encoded (k .flash);
       known = accepted-encoded (k .flash) f s;
       fits = rw back f;
       sound = rw back s;

@@ -1,13 +1,14 @@
 -- Demand 3. A new array and a new ledger agree, so the memory after a list of calls carries a chip that agrees with the ledger after them;
 -- each field of the claim is what that says of a look, a read or any next call. Assumes nothing.
-use mathlib.Core.Path.{_≡_, refl, sym, _∙_}
-use mathlib.Core.Bool.{Bool, true, false, _||_, true≢false}
+use mathlib.Core.Path.{_≡_, sym, _∙_}
+use mathlib.Core.Bool.{true, false, _||_}
 use mathlib.Core.List.{List, [], _∷_}
 use Prim.Native.Nat.{ℕ, zero, suc, _+_, _*_, _≤_, _<_}
 use native.Mathlib.Omega.{arith}
 use borrow.Author.Tests.{leb-false, ltb-false, eq-eqb}
 use lib.Dec.{ltb}
 use lib.ListN.{length}
+use Rattle.time.proofs.Bools.{neither}
 use Rattle.time.specs.declared.Time.{Time}
 use Rattle.cell.specs.Cell.{at}
 use Rattle.registers.specs.Pulses.{pulse, normal}
@@ -18,6 +19,7 @@ use Rattle.settle.proofs.Expose.{settled-array-length}
 use Rattle.lent.specs.declared.Request.the-variants.{Read8, Read16}
 use Rattle.lent.specs.Memory.{Memory, chipIn, check, pastEnd, bitOver}
 use Rattle.lent.specs.Asked.{outcome}
+use Rattle.lent.proofs.Lines.{line}
 use Rattle.lent.specs.Looked.{sizedRefusal, chargeRefusal, chargeAnswer, peekRefusal, peekAnswer, imageRefusal, imageLeft}
 use Rattle.ledger.specs.Words.{applied, endsIn}
 use Rattle.ledger.specs.Ledger.{Ledger, look, freshLedger}
@@ -25,14 +27,10 @@ use Rattle.ledger.specs.Lists.{newMemory}
 use Rattle.ledger.specs.Claim.{Booked, Demand3}
 use Rattle.ledger.proofs.Agree.{look-settled, image-settled, served-byte, served-word, fresh-agree}
 use Rattle.ledger.proofs.Kept.{fresh-fits, fresh-sound-state}
-use Rattle.ledger.proofs.Accepted.{line, Passed, passed, left-at}
+use Rattle.ledger.proofs.Accepted.{Passed, passed, left-at}
 use Rattle.ledger.proofs.Carried.{Carries, carries, called, followed}
 
 -- ---- what is claimed
-
-neither : (b c : Bool) → (b || c) ≡ false → (b ≡ false) × (c ≡ false)
-neither true c e = absurd (true≢false e)
-neither false c e = (refl, e)
 
 -- what a look leaves in its output, by its number
 image-left : (n : ℕ) (t : Time) (m : Memory) (out : List ℕ) → n ≡ 0 → length (imageAt t (chipIn m)) ≤ length out
@@ -112,7 +110,7 @@ module _ (m : Memory) (led : Ledger) (a : Carries m led) where
 -- ---- every list
 
 -- as `new` leaves it
-start : (firmware charges : List ℕ) → length firmware ≡ 49152 → ((b : ℕ) → at firmware b < 256) → length charges ≡ 393216
+pub start : (firmware charges : List ℕ) → length firmware ≡ 49152 → ((b : ℕ) → at firmware b < 256) → length charges ≡ 393216
     → Carries (newMemory firmware charges) (freshLedger firmware)
 start firmware charges h small l =
     carries (record { flash = freshFlash; array = firmware; charges = charges }) (freshLedger firmware) fresh-fits fresh-sound-state

@@ -8,6 +8,7 @@ use native.Mathlib.Omega.{arith}
 use borrow.Author.Tests.{ltb-true, lt-ltb, leb-false}
 use lib.Pow.{shr-lt}
 use lib.ListN.{set, replicate, length-set, length-replicate}
+use Rattle.time.proofs.Bools.{either}
 use Rattle.time.specs.declared.Time.{Time}
 use Rattle.time.specs.Raw.{instant, plus, micros, after, beforeLastSecond}
 use Rattle.time.proofs.Laws.{micros-short, sum-fits}
@@ -25,14 +26,15 @@ use Rattle.registers.specs.Calls.{next, settles}
 use Rattle.settle.specs.Pages.{Cells, cellAt, opened, within, distinct, slotsSound}
 use Rattle.settle.specs.Settling.{fourSensed, sensedBy, senseAddress, verifySense}
 use Rattle.flash.specs.Chip.{Chip, registers, cells, settledAt, sensedAt, placed, blankSensed, sensedAfter, stepIf, step, noPages, freshFlash}
-use Rattle.settle.proofs.Slots.{Slots, SlotsOf, opened-le, slots-sound}
+use Rattle.settle.proofs.Slots.{SlotsOf, slots-sound}
 use Rattle.settle.proofs.Expose.{settled-slots}
 use Rattle.layout.specs.Whole.{RowFits, TimeFits, PendingFits, RegistersFit, Fits, PendingSound, Sound}
 use Rattle.lent.specs.declared.Request.{Request}
 use Rattle.lent.specs.declared.Request.the-variants as asks
 use Rattle.lent.specs.Asked.{callOf, misplaced}
+use Rattle.snapshot.proofs.IndexBack.{index-fits}
 use Rattle.ledger.specs.Lists.{Numbers}
-use Rattle.ledger.proofs.Values.{Ask, HeldBy, Anew, Given, either, next-held}
+use Rattle.ledger.proofs.Values.{Ask, HeldBy, Anew, Given, next-held}
 
 -- what the types of the host functions say of a call's arguments
 abbrev pub Arguments : Call → Type 0
@@ -77,14 +79,6 @@ four-fits m a c =
       long = refl;
       small = mapi-small _ 256 (omega arith) (λ k x. sensedByte-lt m (a + k) (λ j. cellAt c (8 * (a + k) + j))) 0 (replicate 4 0);
     }
-
--- an index entry is 0 or a slot's number plus 1, and there are 384 slots
-index-fits : {index charges : List ℕ} → Slots index charges → RowFits 384 2 index
-index-fits {index} inv = record { long = inv .pages; small = λ k. by k (at index k) refl }
-  where
-    by : (k v : ℕ) → at index k ≡ v → v < 256 ^ 2
-    by k zero e = omega arith
-    by k (suc s) e = omega (arith, inv .below k s e, opened-le index, inv .pages)
 
 -- ---- times
 

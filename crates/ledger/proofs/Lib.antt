@@ -10,3 +10,4 @@ pub mod Twice
 pub mod Values
 pub mod Words
 pub mod Worked
+pub mod Reached

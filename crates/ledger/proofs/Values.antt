@@ -1,12 +1,13 @@
 -- What is asked of each value that the registers hold, every rule of a call keeps, if the few values that a call sets anew meet it: each
 -- rule sets a field to one of those or leaves it. Whether a state is in range and whether it is allowed are two such questions.
 -- Assumes nothing.
-use mathlib.Core.Bool.{Bool, true, false, cond, _&&_, _||_}
+use mathlib.Core.Bool.{Bool, cond, _&&_, _||_}
 use mathlib.Core.List.{List}
 use Prim.Native.Nat.{ℕ, _*_, _/_, _%_, _<_}
 use native.Mathlib.Omega.{arith}
 use lib.Dec.{ltb, leb, eqb}
 use lib.ListN.{set}
+use Rattle.time.proofs.Bools.{either}
 use Rattle.time.specs.declared.Time.{Time}
 use Rattle.time.specs.Raw.{raw, later, after}
 use Rattle.control.specs.declared.Mode.{Mode}
@@ -84,11 +85,6 @@ Given q Protect = Unit
 Given q Reset = Unit
 Given q PowerOff = Unit
 Given q (Environment mode modul oscillator) = Unit
-
--- one of two
-pub either : {A : Type 0} (P : A → Type 0) (b : Bool) {x y : A} → P x → P y → P (cond b x y)
-either P true h k = h
-either P false h k = k
 
 module _ (q : Ask) (now : Time) (s : Anew q now) where
   -- ---- times

@@ -8,7 +8,6 @@ use Rattle.time.specs.declared.Time.{Time}
 use Rattle.time.specs.Raw.{instant}
 use Rattle.cell.specs.Cell.{at, bit, firstCharge}
 use Rattle.registers.specs.declared.Registers.{Registers}
-use Rattle.registers.specs.declared.Pulse.{Pulse}
 use Rattle.registers.specs.declared.OpenPulse.{OpenPulse}
 use Rattle.registers.specs.declared.OpenPulse.the-variants.{Closed, Open}
 use Rattle.registers.specs.declared.Call.{Call}

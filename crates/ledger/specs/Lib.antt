@@ -3,3 +3,4 @@ pub mod Ledger
 pub mod Lists
 pub mod Claim
 pub mod Worked
+pub mod Reached

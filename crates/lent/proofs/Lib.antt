@@ -1,4 +1,5 @@
-pub mod Fitted
-pub mod Tells
-pub mod Looks
 pub mod Copied
+pub mod Fitted
+pub mod Lines
+pub mod Looks
+pub mod Tells

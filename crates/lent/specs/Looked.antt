@@ -13,8 +13,8 @@ use Rattle.registers.specs.Access.{register}
 use Rattle.registers.specs.Pulses.{normal}
 use Rattle.flash.specs.Chip.{registers, freshFlash}
 use Rattle.flash.specs.Looking.{chargeAt, peekAt, blankAt, imageAt}
-use Rattle.layout.specs.Layout.{decoded, encoded, flagByte, refused3, recordLength}
-use Rattle.lent.specs.Memory.{Memory, chipIn, Check, check, firstGiven, recordMisfits, sizesMisfit, misfits, pastEnd, bitOver, lastSecond, tooEarly}
+use Rattle.layout.specs.Layout.{decoded, encoded, flagByte, refused3}
+use Rattle.lent.specs.Memory.{Memory, chipIn, Check, check, firstGiven, recordMisfits, sizesMisfit, pastEnd, bitOver, lastSecond, tooEarly}
 
 -- the checks of a look at a record alone, and of one at a time; at memory, an address and a time
 abbrev pub recordChecks : List ℕ → List Check

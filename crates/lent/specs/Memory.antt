@@ -1,6 +1,6 @@
 -- Lent memory, and the refusals of document 01's table as checks in its order: the first that fails gives its number.
 -- Assumes nothing.
-use Prim.Native.Nat.{ℕ, suc, _-_, _^_}
+use Prim.Native.Nat.{ℕ, _-_, _^_}
 use mathlib.Core.Bool.{Bool, cond, not, _&&_, _||_}
 use mathlib.Core.List.{List, [], _∷_}
 use lib.Dec.{leb, ltb, eqb}
@@ -12,7 +12,7 @@ use Rattle.registers.specs.declared.OpenPulse.{OpenPulse}
 use Rattle.flash.specs.declared.Flash.{Flash}
 use Rattle.settle.specs.Settling.{rangeBytes}
 use Rattle.flash.specs.Chip.{Chip}
-use Rattle.layout.specs.Layout.{recordLength, decoded, encoded, refused3}
+use Rattle.layout.specs.Layout.{recordLength, decoded, encoded}
 
 -- The record's bytes, the stored array, the charge store.
 pub record Memory : Type 0 where

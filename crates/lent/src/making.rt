@@ -23,7 +23,7 @@ fn fresh() -> Flash
     }
 }
 
-fn copy(from: &[u8], to: &mut [u8])
+pub fn copy(from: &[u8], to: &mut [u8])
     requires { ⌜ length (now from) ≡ length (now to) ⌝ }
     ensures { λ _. ⌜ now (to .exit) ≡ now (from .entry) ⌝ }
 {

@@ -1,7 +1,7 @@
 -- A sound index: used slots are one-to-one with opened pages and stand below their number, so there is room for one more page.
 -- The test of the specification says the same, by induction on the index. Assumes nothing.
 use mathlib.Core.Path.{_≡_, refl, ap, sym}
-use mathlib.Core.Bool.{Bool, true, false, not, _&&_, _||_}
+use mathlib.Core.Bool.{Bool, true, false, not, _||_}
 use mathlib.Core.List.{List, [], _∷_}
 use Prim.Native.Nat.{ℕ, zero, suc, _≤_, _<_}
 use native.Mathlib.Nat.{suc-inj, not-suc-le-zero, le-of-suc-le-suc}
@@ -9,6 +9,7 @@ use native.Mathlib.Omega.{arith}
 use borrow.Author.Tests.{leb-true, le-leb, eqb-true, eq-eqb}
 use lib.ListN.{length, set}
 use lib.Dec.{leb, eqb, eqb·suc-zero}
+use Rattle.time.proofs.Bools.{both}
 use Rattle.cell.specs.Cell.{at}
 use Rattle.settle.specs.Pages.{Cells, opened, holds, distinct, within, slotsSound}
 
@@ -49,10 +50,6 @@ pub next-lt : {index charges : List ℕ} → Slots index charges → (p : ℕ) �
 next-lt {index} inv p h e = let l : p < length index = omega (arith, inv .pages) in omega (arith, opened-lt index p l e, inv .pages)
 
 -- ---- the test
-
-both : (a b : Bool) → (a && b) ≡ true → (a ≡ true) × (b ≡ true)
-both true b e = (refl, e)
-both false b e = absurd (let z : _≡_ {A = ℕ} 0 1 = cc in omega arith)
 
 within-le : (n : ℕ) (xs : List ℕ) (q : ℕ) → within n xs ≡ true → at xs q ≤ n
 unfolding within

@@ -1,4 +1,5 @@
-/* A fresh chip, a read that is served and one that is refused, through include/flash.h. */
+/* A fresh chip, a read that is served and one that is refused, and a snapshot, through
+ * include/flash.h. */
 #include <stdio.h>
 #include <stdlib.h>
 
@@ -7,6 +8,7 @@
 /* Static, since the charge store is larger than some stacks. */
 static uint8_t firmware[FLASH_ARRAY_BYTES], array[FLASH_ARRAY_BYTES];
 static uint64_t charges[FLASH_CELLS], events[FLASH_PAGE_BYTES + 1];
+static uint8_t snapshot[FLASH_SNAPSHOT_BYTES + 1];
 
 static void expect(bool holds, const char *what) {
     if (!holds) {
@@ -17,9 +19,9 @@ static void expect(bool holds, const char *what) {
 
 int main(void) {
     const size_t length = flash_record_len(), words = sizeof events / sizeof *events;
-    uint8_t *record = malloc(length), blank = 9;
+    uint8_t *record = malloc(length), blank = 9, valid = 9;
     uint16_t word = 0xA5A5;
-    uint64_t count = 99;
+    uint64_t count = 99, written = 99;
 
     expect(length > 0 && record != NULL, "memory for the record");
     firmware[0xBFFE] = 0x12;
@@ -44,6 +46,20 @@ int main(void) {
                             &blank) == FLASH_ANSWERED &&
                blank == 0,
            "last page is not blank");
+    expect(flash_write_snapshot(record, length, array, sizeof array, charges, FLASH_CELLS, snapshot,
+                                sizeof snapshot, &written) == FLASH_ANSWERED &&
+               written == FLASH_SNAPSHOT_BYTES,
+           "snapshot without charge pages");
+    record[0] = 0xFF;
+    expect(flash_read_snapshot(snapshot, written + 1, record, length, array, sizeof array, charges,
+                               FLASH_CELLS, 0, 0) == FLASH_LEFT_OVER &&
+               record[0] == 0xFF,
+           "a byte left over");
+    expect(flash_read_snapshot(snapshot, written, record, length, array, sizeof array, charges,
+                               FLASH_CELLS, 0, 0) == FLASH_ANSWERED,
+           "snapshot read back");
+    expect(flash_validate(record, length, 0, 0, &valid) == FLASH_ANSWERED && valid == 1,
+           "restored state is valid");
     free(record);
     puts("ok");
     return 0;

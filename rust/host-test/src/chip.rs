@@ -32,6 +32,7 @@ pub enum Ask {
     Environment(u8, bool, bool),
     Register(u16),
     Normal,
+    Validate,
     Peek(u16),
     CellCharge(u16, u8),
     BlankPage(u16),
@@ -134,12 +135,15 @@ impl Chip {
             Ask::Environment(mode, module, oscillator) => {
                 ledger!(flash_environment, self, mode, module, oscillator, s, f, &mut n)
             }
-            // Safety of these two: as for the ledger's calls.
+            // Safety of these three: as for the ledger's calls.
             Ask::Register(a) => unsafe {
                 ffi::flash_register(self.record.as_ptr(), self.record.len(), a, &mut byte)
             },
             Ask::Normal => unsafe {
                 ffi::flash_normal(self.record.as_ptr(), self.record.len(), s, f, &mut byte)
+            },
+            Ask::Validate => unsafe {
+                ffi::flash_validate(self.record.as_ptr(), self.record.len(), s, f, &mut byte)
             },
             Ask::Peek(a) => look!(flash_peek, self, a, s, f, &mut byte),
             Ask::CellCharge(a, bit) => look!(flash_cell_charge, self, a, bit, s, f, &mut charge),
@@ -164,12 +168,41 @@ impl Chip {
         let (s, f) = ((at >> 64) as u64, at as u64);
         look!(flash_image, self, s, f, out.as_mut_ptr(), out.len())
     }
+
+    /// The refusal or 0, and the length where the library gave one.
+    pub fn write_snapshot(&self, out: &mut [u8]) -> (u32, Option<u64>) {
+        let mut length = MARK;
+        let refusal = look!(flash_write_snapshot, self, out.as_mut_ptr(), out.len(), &mut length);
+        (refusal, (length != MARK).then_some(length))
+    }
+
+    pub fn read_snapshot(&mut self, bytes: &[u8], at: u128) -> u32 {
+        let (s, f) = ((at >> 64) as u64, at as u64);
+        // Safety: as for the ledger's calls.
+        unsafe {
+            ffi::flash_read_snapshot(
+                bytes.as_ptr(),
+                bytes.len(),
+                self.record.as_mut_ptr(),
+                self.record.len(),
+                self.array.as_mut_ptr(),
+                self.array.len(),
+                self.charges.as_mut_ptr(),
+                self.charges.len(),
+                s,
+                f,
+            )
+        }
+    }
 }
 
 impl Ask {
     pub fn is_look(self) -> bool {
         use Ask::*;
-        matches!(self, Register(_) | Normal | Peek(_) | CellCharge(..) | BlankPage(_) | Image(_))
+        matches!(
+            self,
+            Register(_) | Normal | Validate | Peek(_) | CellCharge(..) | BlankPage(_) | Image(_)
+        )
     }
 
     fn has_output(self) -> bool {

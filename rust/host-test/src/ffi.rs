@@ -204,4 +204,37 @@ extern "C" {
         out: *mut u8,
         out_len: usize,
     ) -> u32;
+
+    pub fn flash_validate(
+        record: *const u8,
+        record_len: usize,
+        seconds: u64,
+        fraction: u64,
+        valid: *mut u8,
+    ) -> u32;
+
+    pub fn flash_write_snapshot(
+        record: *const u8,
+        record_len: usize,
+        array: *const u8,
+        array_len: usize,
+        charges: *const u64,
+        charges_len: usize,
+        out: *mut u8,
+        out_len: usize,
+        length: *mut u64,
+    ) -> u32;
+
+    pub fn flash_read_snapshot(
+        bytes: *const u8,
+        bytes_len: usize,
+        record: *mut u8,
+        record_len: usize,
+        array: *mut u8,
+        array_len: usize,
+        charges: *mut u64,
+        charges_len: usize,
+        seconds: u64,
+        fraction: u64,
+    ) -> u32;
 }

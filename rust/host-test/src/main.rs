@@ -6,6 +6,7 @@ mod checks;
 mod chip;
 #[allow(unsafe_code)]
 mod ffi;
+mod format;
 
 use std::process::ExitCode;
 

@@ -4,6 +4,7 @@ mod pulses;
 mod refusals;
 mod room;
 mod rounds;
+mod snapshots;
 
 use crate::chip::{Ask, Chip, Reply, ARRAY_BYTES};
 use std::fmt::Debug;
@@ -35,6 +36,16 @@ pub const ALL: &[Named] = &[
     ("program_200_us_and_verify", rounds::short_pulse),
     ("waits_end_to_the_unit", rounds::waits),
     ("program_erase_and_verify_the_whole_chip", rounds::whole_chip),
+    ("snapshot_holds_the_state", snapshots::holds_the_state),
+    ("snapshot_restores_the_state", snapshots::restores),
+    ("restored_chip_answers_as_the_original", snapshots::answers_alike),
+    ("every_damaged_field_has_its_number", snapshots::damaged_fields),
+    ("snapshot_cut_anywhere_is_9", snapshots::cuts),
+    ("first_damage_in_reading_order_wins", snapshots::two_damages),
+    ("bytes_left_over_are_11", snapshots::left_over),
+    ("snapshot_refusals_in_their_order", snapshots::order),
+    ("snapshot_output_room", snapshots::room),
+    ("validate_is_the_twelfth_line", snapshots::validate),
 ];
 
 pub const FULL: u64 = 12_912_720_851_596_686_100;

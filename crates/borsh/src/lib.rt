@@ -1,0 +1,1 @@
+// The Borsh specification's formats: definitions and proofs alone.

@@ -1,0 +1,13 @@
+pub mod Alike
+pub mod Claimed
+pub mod Fixed
+pub mod Format
+pub mod Good
+pub mod Index
+pub mod IndexBack
+pub mod Length
+pub mod PagesRead
+pub mod Pigeon
+pub mod Places
+pub mod SameCells
+pub mod StateRead

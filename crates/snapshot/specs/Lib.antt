@@ -1,0 +1,4 @@
+pub mod Snapshot
+pub mod Asked
+pub mod Places
+pub mod Claim
