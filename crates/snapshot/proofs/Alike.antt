@@ -1,25 +1,26 @@
 -- Memory that differs in nothing but slots not in use gives the same answers to every call and look, and calls leave it so. The refusals ask
 -- for the record and for lengths alone; where none is given the slots are sound, and settling leaves cells the same. Assumes nothing.
-use mathlib.Core.Path.{_≡_, refl, sym, ap, _∙_, subst}
+use mathlib.Core.Path.{_≡_, refl, sym, ap, ap₂, _∙_, subst}
 use mathlib.Core.Bool.{Bool, true, false, cond, not}
-use mathlib.Core.List.{List, _++_}
-use Prim.Native.Nat.{ℕ, zero, suc, _+_, _*_, _/_, _<_}
+use mathlib.Core.List.{List, _∷_, _++_}
+use Prim.Native.Nat.{ℕ, zero, suc, _+_, _-_, _*_, _/_, _<_, min}
+use native.Mathlib.Nat.{zero-add}
 use native.Mathlib.Omega.{arith}
-use lib.ListN.{length}
-use lib.Seq.{sets}
+use lib.ListN.{length, take, drop, length-take, length-drop}
+use lib.Seq.{sets, ext-getD, getD-take, getD-drop}
 use Rattle.time.specs.declared.Time.{Time}
-use Rattle.cell.specs.Cell.{at}
+use Rattle.cell.specs.Cell.{at, pageBytes}
 use Rattle.registers.specs.declared.Call.{Call}
 use Rattle.registers.specs.Pulses.{pulse}
 use Rattle.registers.specs.Calls.{next, settles}
-use Rattle.settle.specs.Pages.{cellAt}
+use Rattle.settle.specs.Pages.{cellAt, opened}
 use Rattle.settle.specs.Settling.{changes, endWords}
 use Rattle.settle.proofs.Slots.{SlotsOf, slots-from}
 use Rattle.settle.proofs.Expose.{settled-slots}
 use Rattle.flash.specs.Chip.{Chip, registers, cells, settledAt, sensedAt, sensedAfter, stepIf, step, answer, settledAnswer}
 use Rattle.flash.specs.Looking.{chargeAt, imageAt, peekAt, allBlank, blankAt}
 use Rattle.flash.proofs.Answers.{settled-value, stored-value}
-use Rattle.layout.specs.Layout.{flagByte, encoded, accepted, refused3}
+use Rattle.layout.specs.Layout.{flagByte, encoded, decoded, accepted, refused3}
 use Rattle.layout.proofs.Back.{decoded-index}
 use Rattle.layout.proofs.Accepted.{accepted-sound}
 use Rattle.lent.specs.declared.Request.{Request}
@@ -27,6 +28,7 @@ use Rattle.lent.specs.Memory.{Memory, chipIn, misfits}
 use Rattle.lent.specs.Asked.{callOf, refusal, outcomeBy, outcome}
 use Rattle.lent.specs.Looked.{sizedRefusal, lookRefusal, chargeRefusal, chargeAnswer, peekRefusal, peekAnswer, blankRefusal, blankAnswer, imageRefusal, imageLeft}
 use Rattle.lent.proofs.Fitted.{sizes-fit}
+use Rattle.snapshot.specs.Snapshot.{ChargePage, snapshot, placeOf, slotPages, stateFields, contentsOf, snapshotOf}
 use Rattle.snapshot.specs.Claim.{inUse, SameOutcome, SameAnswers, Restored}
 use Rattle.snapshot.proofs.SameCells.{Same, same-charges, same-settled, same-sensed}
 use Rattle.snapshot.proofs.IndexBack.{decoded-long, step-index}
@@ -97,6 +99,30 @@ module _ (k : Chip) (qs : List ℕ) (inv : SlotsOf (cells k)) (s : Same (cells k
         by true = ap (λ (xs : List ℕ). changes 0 (k .array) xs ++ endWords c now (registers k)) (settled-same .array-is)
         by false = refl
 
+-- ---- charge pages
+
+-- the charges of a slot that is in use
+slot-same : (qs qs′ : List ℕ) (s : ℕ) → length qs′ ≡ length qs → ((j : ℕ) → j < 1024 → at qs′ (s * 1024 + j) ≡ at qs (s * 1024 + j))
+    → take 1024 (drop (s * 1024) qs′) ≡ take 1024 (drop (s * 1024) qs)
+slot-same qs qs′ s long used =
+    ext-getD 0 (take 1024 (drop (s * 1024) qs′)) (take 1024 (drop (s * 1024) qs))
+    (length-take 1024 (drop (s * 1024) qs′) ∙ ap (min 1024) (length-drop (s * 1024) qs′ ∙ ap (λ n. n - s * 1024) long ∙ sym (length-drop (s * 1024) qs))
+    ∙ sym (length-take 1024 (drop (s * 1024) qs)))
+    (λ j h. let l : j < 1024 = omega (arith, length-take 1024 (drop (s * 1024) qs′)) in
+    there qs′ j l ∙ used j l ∙ sym (there qs j l))
+  where
+    there : (l : List ℕ) (j : ℕ) → j < 1024 → at (take 1024 (drop (s * 1024) l)) j ≡ at l (s * 1024 + j)
+    there l j h = getD-take 1024 (drop (s * 1024) l) j 0 h ∙ getD-drop (s * 1024) l j 0
+
+pages-same : (n s : ℕ) (index qs qs′ : List ℕ) → length qs′ ≡ length qs → ((i : ℕ) → i < (s + n) * 1024 → at qs′ i ≡ at qs i)
+    → slotPages n s index qs′ ≡ slotPages n s index qs
+unfolding slotPages
+pages-same zero s index qs qs′ long used = refl
+pages-same (suc n) s index qs qs′ long used =
+    ap₂ (λ (cells : List ℕ) (ps : List ChargePage). (placeOf (suc s) index * pageBytes, cells) ∷ ps)
+    (slot-same qs qs′ s long (λ j h. used (s * 1024 + j) (omega arith)))
+    (pages-same n (suc s) index qs qs′ long (λ i h. used i (omega arith)))
+
 -- ---- memory
 
 -- memory that is refused neither by 2 nor by 3 has sound slots
@@ -151,6 +177,13 @@ module _ (m : Memory) (qs : List ℕ) (long : length qs ≡ length (m .charges))
   unfolding sizedRefusal
   slots-looked misplaced t e = slots-in m _ e
 
+  snapshot-same : snapshotOf (chipIn (memoryWith qs m)) ≡ snapshotOf (chipIn m)
+  unfolding snapshotOf contentsOf
+  snapshot-same =
+      let s = decoded (m .bytes) in
+      ap (λ (ps : List ChargePage). snapshot .write (m .array, (ps, stateFields s)))
+      (pages-same (opened (s .indices)) 0 (s .indices) (m .charges) qs long (λ i h. used i (rw (zero-add (opened (s .indices))) at h)))
+
   answers : SameAnswers m (memoryWith qs m)
   unfolding chargeRefusal chargeAnswer chargeAt peekRefusal peekAnswer peekAt blankRefusal blankAnswer blankAt imageRefusal
   answers =
@@ -164,6 +197,7 @@ module _ (m : Memory) (qs : List ℕ) (long : length qs ≡ length (m .charges))
           λ e. ap (λ (xs : List ℕ). flagByte (allBlank 128 (a / 128 * 128) xs)) (image t (slots-looked _ t e)),
         );
         image = λ t out. rw long (by t out (imageRefusal t (length out) m) refl);
+        snapshot = snapshot-same;
       }
     where
       by : (t : Time) (out : List ℕ) (n : ℕ) → imageRefusal t (length out) m ≡ n → imageLeft n t (memoryWith qs m) out ≡ imageLeft n t m out

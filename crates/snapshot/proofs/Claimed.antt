@@ -29,8 +29,9 @@ use Rattle.lent.proofs.Lines.{line}
 use Rattle.lent.specs.Memory.{Memory, chipIn, misfits, lastSecond, tooEarly}
 use Rattle.borsh.specs.Borsh.{Read, got}
 use Rattle.snapshot.specs.Snapshot.{ChargePage, Contents, snapshot, contentsOf, snapshotOf, stateFields, stateOf, indexed, cellsOf, flashIn}
-use Rattle.snapshot.specs.Asked.{pendingPlaced, valid, first, judged, readRefusal, restored, memoryRead}
+use Rattle.snapshot.specs.Asked.{pendingPlaced, valid, judged, readRefusal, restored, memoryRead}
 use Rattle.snapshot.specs.Claim.{Bytes, inUse, Whole, Snapshots}
+use Rattle.snapshot.proofs.Fixed.{first-zero}
 use Rattle.snapshot.proofs.Good.{GoodPages}
 use Rattle.snapshot.proofs.Format.{GoodContents, snapshot-lawful, state-good, good-fits}
 use Rattle.snapshot.proofs.Length.{length-snapshot}
@@ -48,10 +49,6 @@ sizes m e = sizes-fit (length (m .bytes)) (length (m .array)) (length (m .charge
 same-sizes : (m : Memory) → SizesOf m → misfits m ≡ false
 same-sizes m s =
     rw (eq-eqb (length (m .bytes)) recordLength (s .record-long), eq-eqb (length (m .array)) arrayBytes (s .array-long), eq-eqb (length (m .charges)) arrayCells (s .charges-long))
-
-first-none : (a b : ℕ) → first a b ≡ 0 → (a ≡ 0) × (b ≡ 0)
-first-none zero b e = (refl, e)
-first-none (suc a) b e = absurd (omega arith)
 
 -- ---- `validate`
 
@@ -229,7 +226,7 @@ module _ (bytes : List ℕ) (m : Memory) (t : Time) (b : Bytes bytes) where
   accepted-same : readRefusal t bytes m ≡ 0 → (snapshotOf (chipIn (memoryRead 0 bytes m)) ≡ bytes) × Whole (memoryRead 0 bytes m)
   unfolding readRefusal
   accepted-same e =
-      let l = first-none (cond (misfits m) 2 (cond (lastSecond t) 5 0)) (judged t (snapshot .read bytes)) e in
+      let l = first-zero (cond (misfits m) 2 (cond (lastSecond t) 5 0)) (judged t (snapshot .read bytes)) e in
       let f = line 1 (misfits m) (cond (lastSecond t) 5 0) (l .0) .0 in
       let r = judged-got t bytes b (l .1) in
       rw (r .1 .1) (taken-same (r .0) (r .1 .0) (r .1 .1) f (rw (r .1 .1) at (l .1)))

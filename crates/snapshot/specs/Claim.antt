@@ -70,7 +70,8 @@ pub record SameOutcome (o o′ : Outcome) : Type 0 where
   pub count : o′ .count ≡ o .count
   pub memory : Alike (o .memory) (o′ .memory)
 
--- Every call and every look answers alike over two memories, and calls leave them alike.
+-- Every call and every look answers alike over two memories, calls leave them alike, and they have one snapshot. What looks at the record
+-- alone needs no line: the records are equal.
 pub record SameAnswers (m m′ : Memory) : Type 0 where
   pub call : (q : Request) (t : Time) (lent : List ℕ) → SameOutcome (outcome q t lent m) (outcome q t lent m′)
   pub charge : (a bit : ℕ) (t : Time) → (chargeRefusal a bit t m′ ≡ chargeRefusal a bit t m)
@@ -78,6 +79,7 @@ pub record SameAnswers (m m′ : Memory) : Type 0 where
   pub peek : (a : ℕ) (t : Time) → (peekRefusal a t m′ ≡ peekRefusal a t m) × (peekRefusal a t m ≡ 0 → peekAnswer a t m′ ≡ peekAnswer a t m)
   pub blank : (a : ℕ) (t : Time) → (blankRefusal a t m′ ≡ blankRefusal a t m) × (blankRefusal a t m ≡ 0 → blankAnswer a t m′ ≡ blankAnswer a t m)
   pub image : (t : Time) (out : List ℕ) → imageLeft (imageRefusal t (length out) m′) t m′ out ≡ imageLeft (imageRefusal t (length out) m) t m out
+  pub snapshot : snapshotOf (chipIn m′) ≡ snapshotOf (chipIn m)
 
 abbrev pub Restored : Type 0
 Restored = (m m′ : Memory) → Alike m m′ → SameAnswers m m′

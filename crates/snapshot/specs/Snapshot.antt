@@ -59,7 +59,7 @@ supply = enum 3 supplyNumber supplyOf
 unfoldable pub mode : Borsh Mode
 mode = enum 6 modeNumber modeOf
 
--- ---- the struct, in five runs of fields and the rest
+-- ---- the struct, in runs of fields
 
 -- control, error, erase, enabled, power_down_disabled
 abbrev pub Controls : Type 0

@@ -40,6 +40,7 @@ pub const ALL: &[Named] = &[
     ("snapshot_restores_the_state", snapshots::restores),
     ("restored_chip_answers_as_the_original", snapshots::answers_alike),
     ("every_damaged_field_has_its_number", snapshots::damaged_fields),
+    ("every_charge_over_full_is_10", snapshots::damaged_charges),
     ("snapshot_cut_anywhere_is_9", snapshots::cuts),
     ("first_damage_in_reading_order_wins", snapshots::two_damages),
     ("bytes_left_over_are_11", snapshots::left_over),

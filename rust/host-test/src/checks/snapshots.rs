@@ -199,7 +199,7 @@ fn damages(field: Field, bytes: &[u8]) -> Vec<Vec<u8>> {
     list
 }
 
-/// Every field, but of a page's charges only some: all of them would take minutes.
+/// Every field, but of a page's charges only some, where each is tried in many ways.
 fn tried(fields: &[Field]) -> impl Iterator<Item = Field> + '_ {
     let mut charges = 0;
     fields.iter().copied().filter(move |field| {
@@ -224,6 +224,24 @@ pub fn damaged_fields() -> Check {
         holds(("came about", number), taker.seen[number] > 0)?;
     }
     Ok(())
+}
+
+/// Each charge of every page, just over FULL.
+pub fn damaged_charges() -> Check {
+    let mut taker = Taker::new()?;
+    let mut charges = 0;
+    for left in chips()? {
+        let mut bytes = written(&left.chip)?;
+        for field in walk(&bytes).0.fields.iter().filter(|field| field.kind == Kind::Charge) {
+            let place = field.start..field.end;
+            let good = bytes[place.clone()].to_vec();
+            bytes[place.clone()].copy_from_slice(&(FULL + 1).to_le_bytes());
+            taker.reads((left.pages, field.start), &bytes, LATER)?;
+            bytes[place].copy_from_slice(&good);
+            charges += 1;
+        }
+    }
+    same("all were 10", (charges, taker.seen[10]), (11 * 1024, 11 * 1024))
 }
 
 /// At every boundary of fields, a byte before it and a byte after it.
