@@ -2,10 +2,7 @@
 #![deny(unsafe_code)]
 
 mod checks;
-#[allow(unsafe_code)]
 mod chip;
-#[allow(unsafe_code)]
-mod ffi;
 mod format;
 
 use std::process::ExitCode;

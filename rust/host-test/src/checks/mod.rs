@@ -7,6 +7,8 @@ mod rounds;
 mod snapshots;
 
 use crate::chip::{Ask, Chip, Reply, ARRAY_BYTES};
+pub use doqtarbu::register::*;
+pub use doqtarbu::FULL;
 use std::fmt::Debug;
 
 pub type Check = Result<(), String>;
@@ -49,21 +51,7 @@ pub const ALL: &[Named] = &[
     ("validate_is_the_twelfth_line", snapshots::validate),
 ];
 
-pub const FULL: u64 = 12_912_720_851_596_686_100;
 pub const PAGE: u16 = 128;
-
-pub const FLMCR1: u16 = 0xf020;
-pub const FLMCR2: u16 = 0xf021;
-pub const FLPWCR: u16 = 0xf022;
-pub const EBR1: u16 = 0xf023;
-pub const FENR: u16 = 0xf02b;
-pub const SWE: u8 = 0x40;
-pub const ESU: u8 = 0x20;
-pub const PSU: u8 = 0x10;
-pub const EV: u8 = 8;
-pub const PV: u8 = 4;
-pub const E: u8 = 2;
-pub const P: u8 = 1;
 
 /// The erase register's blocks: its value, the first address and the number of bytes.
 pub const BLOCKS: [(u8, u16, u16); 6] = [

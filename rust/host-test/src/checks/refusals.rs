@@ -1,5 +1,6 @@
 //! Every number of the table of refusals that this interface can give, each with what it just takes.
 use super::*;
+use doqtarbu::{record_len, CELLS};
 
 const LAST_SECOND: u128 = (u64::MAX as u128) << 64;
 
@@ -56,14 +57,14 @@ pub fn lent_lengths() -> Check {
     let chip = fresh(0xff)?;
     let record: [fn(&mut Chip); 3] = [
         |chip| chip.record.clear(),
-        |chip| chip.record.truncate(chip.record.len() - 1),
+        |chip| chip.record.truncate(record_len() - 1),
         |chip| chip.record.push(0),
     ];
     let cells: [fn(&mut Chip); 5] = [
         |chip| chip.array.clear(),
         |chip| chip.array.truncate(ARRAY_BYTES - 1),
         |chip| chip.array.push(0),
-        |chip| chip.charges.truncate(chip.charges.len() - 1),
+        |chip| chip.charges.truncate(CELLS - 1),
         |chip| chip.charges.push(0),
     ];
     for spoil in record.into_iter().chain(cells) {
