@@ -1,12 +1,5 @@
-// The flash: its registers and the page index of the charge store, and what each call does to them and to the lent array, charges and
-// event words.
-pub mod answering;
-pub mod ending;
-pub mod imaging;
-pub mod looking;
-pub mod performing;
-pub mod verifying;
-
+// The flash: its registers and the page index of the charge store. What each call does to them and to the lent array, charges and event
+// words is in the definitions; the functions are in the crates above.
 use cell::PAGES;
 use registers::Registers;
 use time::Time;

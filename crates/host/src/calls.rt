@@ -3,8 +3,8 @@ ghost use mathlib.Core.Path.{_≡_};
 ghost use Rattle.lent.specs.declared.Request.the-variants.{WriteRegister, Write8, Read8, Read16, Protect, Reset, PowerOff, Environment};
 ghost use Rattle.lent.specs.Asked.{outcome, Told};
 ghost use Rattle.lent.specs.Looked.{answered};
+use ask::ask;
 use lent::Request;
-use lent::asking::ask;
 use time::Time;
 
 // A write to a register.

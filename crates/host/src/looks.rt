@@ -5,12 +5,12 @@ ghost use Rattle.layout.specs.Layout.{recordLength};
 ghost use Rattle.lent.specs.Looked.{answered, registerRefusal, registerAnswer, normalRefusal, normalAnswer, peekRefusal, peekAnswer, chargeRefusal, chargeAnswer, blankRefusal, blankAnswer, imageRefusal, imageLeft, newRefusal, newRecord, newArray};
 use layout::RECORD_LEN;
 use lent::making::make;
-use lent::seeing::see_blank;
-use lent::seeing::see_byte;
-use lent::seeing::see_charge;
-use lent::seeing::see_image;
-use lent::seeing::see_normal;
-use lent::seeing::see_register;
+use see::see_blank;
+use see::see_byte;
+use see::see_charge;
+use see::see_image;
+use see::see_normal;
+use see::see_register;
 use time::Time;
 
 // How many bytes a record has.

@@ -1,6 +1,5 @@
 pub mod Widths
 pub mod Runs
 pub mod Packed
-pub mod Marks
 pub mod Back
 pub mod Accepted

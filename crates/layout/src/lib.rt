@@ -1,105 +1,17 @@
-// The record: the state's bytes, read and written, and which records are refused. The bytes are rows of numbers, one after the other.
-pub mod checks;
-pub mod numbers;
-pub mod rows;
-pub mod slots;
-pub mod state;
-
-ghost use mathlib.Core.Path.{_≡_};
-ghost use mathlib.Core.List.{_++_};
-ghost use lib.ListN.{length, take};
-ghost use Rattle.layout.specs.Layout.{recordLength, accepted, encoded, decoded, headOf, addressesOf, halvesOf, rowBytes};
-use crate::checks::in_range;
-use crate::checks::legible;
-use crate::rows::get_bytes;
-use crate::rows::get_halves;
-use crate::rows::get_words;
-use crate::rows::put_bytes;
-use crate::rows::put_halves;
-use crate::rows::put_words;
-use crate::state::addresses_of;
-use crate::state::halves_of;
-use crate::state::head_of;
-use crate::state::registers_of;
-use cell::PAGE;
-use cell::PAGES;
-use flash::Flash;
-use registers::Registers;
-use time::Time;
+// The record: rows of numbers, one after the other. What its bytes are and which are refused is in the definitions; the functions are in
+// the crates above.
 
 // Bytes of the record, and where each row begins after the first.
 pub const RECORD_LEN: usize = 1042;
 
-const ADDRESSES: usize = 10;
+pub const ADDRESSES: usize = 10;
 
-const HALVES: usize = 14;
+pub const HALVES: usize = 14;
 
-const PENDING_INSTANT: usize = 126;
+pub const PENDING_INSTANT: usize = 126;
 
-const LATCH: usize = 142;
+pub const LATCH: usize = 142;
 
-const SENSED: usize = 270;
+pub const SENSED: usize = 270;
 
-const INDICES: usize = 274;
-
-// The state that a record holds.
-pub fn read(record: &[u8]) -> Flash
-    requires { ⌜ length (now «record») ≡ recordLength ⌝ }
-    ensures { λ r. ⌜ r ≡ decoded (now («record» .entry)) ⌝ }
-{
-    let mut head = [0u8; 10];
-    get_bytes(record, 0, &mut head);
-    let mut addresses = [0u16; 2];
-    get_words(record, ADDRESSES, &mut addresses);
-    let mut halves = [0u64; 16];
-    get_halves(record, HALVES, &mut halves);
-    let mut latch = [0u8; PAGE];
-    get_bytes(record, LATCH, &mut latch);
-    let mut sensed = [0u8; 4];
-    get_bytes(record, SENSED, &mut sensed);
-    let mut indices = [0u16; PAGES];
-    get_words(record, INDICES, &mut indices);
-    let registers = registers_of(head, addresses, halves, latch);
-    Flash {
-        registers: registers,
-        pulse_since: Time(halves[12], halves[13]),
-        sensed: sensed,
-        indices: indices,
-    }
-}
-
-// The rows before the latch.
-fn put_scalars(record: &mut [u8], registers: Registers, since: Time)
-    requires { ⌜ length (now «record») ≡ recordLength ⌝ }
-    ensures { λ _. ⌜ take 142 (now («record» .exit)) ≡ rowBytes 1 (headOf registers) ++ rowBytes 2 (addressesOf registers) ++ rowBytes 8 (halvesOf registers since) ⌝ }
-{
-    let head = head_of(registers);
-    let addresses = addresses_of(registers);
-    let halves = halves_of(registers, since);
-    put_bytes(record, 0, &head);
-    put_words(record, ADDRESSES, &addresses);
-    put_halves(record, HALVES, &halves);
-}
-
-// A state's record.
-pub fn write(record: &mut [u8], flash: Flash)
-    requires { ⌜ length (now «record») ≡ recordLength ⌝ }
-    ensures { λ _. ⌜ now («record» .exit) ≡ encoded flash ⌝ }
-{
-    let registers = flash.registers;
-    let latch = registers.latch;
-    let sensed = flash.sensed;
-    let indices = flash.indices;
-    put_scalars(record, registers, flash.pulse_since);
-    put_bytes(record, LATCH, &latch);
-    put_bytes(record, SENSED, &sensed);
-    put_words(record, INDICES, &indices);
-}
-
-// Whether a record is one that a state is written as, and that is allowed: if not, it is refused by 3.
-pub fn accepts(record: &[u8]) -> bool
-    requires { ⌜ length (now «record») ≡ recordLength ⌝ }
-    ensures { λ r. ⌜ r ≡ accepted (now («record» .entry)) ⌝ }
-{
-    legible(record) & in_range(record)
-}
+pub const INDICES: usize = 274;

@@ -3,12 +3,13 @@ ghost use mathlib.Core.Path.{_≡_};
 ghost use Rattle.lent.specs.Memory.{sizesMisfit, pastEnd, lastSecond, tooFewWords};
 ghost use Rattle.lent.specs.Asked.{callOf, misplaced, callRefusal};
 use crate::Request;
+use calling::settles;
 use cell::CELLS;
 use cell::FLASH_SIZE;
 use cell::PAGE;
+use coding::state::mode_of;
 use flash::Flash;
 use layout::RECORD_LEN;
-use layout::state::mode_of;
 use registers::Call;
 use registers::OpenPulse;
 use time::Time;
@@ -94,7 +95,7 @@ pub fn call_refusal(flash: Flash, request: Request, time: Time, words: usize) ->
     if time.earlier(since) {
         return 6;
     }
-    if registers.settles(call_of(request), time) & too_few_words(registers.pulse(), words) {
+    if settles(registers, call_of(request), time) & too_few_words(registers.pulse(), words) {
         return 7;
     }
     0

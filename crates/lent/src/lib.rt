@@ -1,10 +1,8 @@
 // Every call over lent memory: its checks in document 01's order, then what it does and answers. No function here that a host calls
 // asks for anything.
 
-pub mod asking;
 pub mod checking;
 pub mod making;
-pub mod seeing;
 
 // The calls of the ledger as a host asks for them, with their arguments but the time: a mode is a number here, and may be none.
 pub enum Request {

@@ -6,8 +6,8 @@ ghost use Rattle.lent.specs.Looked.{newRefusal, newRecord, newArray};
 use crate::checking::sizes_misfit;
 use cell::FLASH_SIZE;
 use cell::PAGES;
+use coding::write;
 use flash::Flash;
-use layout::write;
 use registers::Registers;
 use time::Time;
 

@@ -1,20 +1,20 @@
 // What of the flash depends on no charge: its registers, the latch, the supply and the waits, and the pulse that they open. The chip
 // and the ledger share these rules.
-pub mod access;
-pub mod calls;
-pub mod environment;
-pub mod latch;
 pub mod pulses;
 
+ghost use mathlib.Core.Path.{_≡_};
+ghost use Rattle.registers.specs.Access.{settled};
+ghost use Rattle.registers.specs.Environment.{fresh};
 use cell::Direction;
 use cell::PAGE;
 use control::Mode;
 use control::Pending;
 use control::Supply;
+use control::verify::sense_due;
 use time::Time;
 
 // Bytes of a page, as an address has them.
-const PAGE_BYTES: u16 = PAGE as u16;
+pub const PAGE_BYTES: u16 = PAGE as u16;
 
 pub struct Registers {
     pub control: u8,
@@ -35,6 +35,49 @@ pub struct Registers {
     pub recovery: Time,
     pub verify_ready: Time,
     pub verify_pending: Pending,
+}
+
+impl Registers {
+    // The registers of a fresh array.
+    pub fn new() -> Registers
+        ensures { λ r. ⌜ r ≡ fresh ⌝ }
+    {
+        Registers {
+            control: 0,
+            error: false,
+            erase: 0,
+            enabled: false,
+            power_down_disabled: false,
+            latch: [0xffu8; PAGE],
+            page: 0,
+            supply: Supply::Normal,
+            oscillator: true,
+            mode: Mode::Active,
+            module: true,
+            ready: Time(0, 0),
+            swe_ready: Time(0, 0),
+            program_ready: Time(0, 0),
+            erase_ready: Time(0, 0),
+            recovery: Time(0, 0),
+            verify_ready: Time(0, 0),
+            verify_pending: Pending::Nothing,
+        }
+    }
+
+    // The registers after a settle: a sense that is due is no longer pending.
+    pub fn settled(self, now: Time) -> Registers
+        ensures { λ r. ⌜ r ≡ settled now self ⌝ }
+    {
+        let pending = self.verify_pending;
+        let supply = self.supply;
+        if sense_due(pending, supply, now) {
+            return Registers {
+                verify_pending: Pending::Nothing,
+                ..self
+            };
+        }
+        self
+    }
 }
 
 // A pulse is its direction, range and ready instant.

@@ -14,7 +14,7 @@ use crate::loading::load_pages;
 use crate::validity::valid;
 use cell::FLASH_SIZE;
 use cell::PAGES;
-use layout::write;
+use coding::write;
 use lent::checking::last_second;
 use lent::checking::sizes_misfit;
 use lent::making::copy;

@@ -2,16 +2,16 @@
 ghost use mathlib.Core.Path.{_≡_};
 ghost use Rattle.lent.specs.Looked.{Shown};
 ghost use Rattle.snapshot.specs.Asked.{pendingPlaced, valid, validRefusal, validAnswer};
+use checks::PAGE_BYTES;
+use checks::legible;
+use checks::placed;
+use coding::read;
+use coding::state::flag_byte;
 use control::Pending;
 use flash::Flash;
 use layout::RECORD_LEN;
-use layout::checks::PAGE_BYTES;
-use layout::checks::legible;
-use layout::checks::placed;
-use layout::read;
-use layout::state::flag_byte;
 use lent::checking::last_second;
-use lent::seeing::Seen;
+use see::Seen;
 use time::Time;
 
 // A pending sense is of four aligned bytes inside the array.
