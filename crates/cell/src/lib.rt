@@ -1,7 +1,6 @@
-// The cells of the array: their classes, what they sense, and what a pulse does to their charges.
-pub mod charging;
+// The cells of the array: their classes. What they sense and what a pulse does to their charges is in the definitions; the functions are the
+// crates `sensing` and `charging`.
 pub mod classes;
-pub mod sensing;
 
 // The charge of a programmed cell.
 pub const FULL: u64 = 12912720851596686100;

@@ -9,13 +9,13 @@ use control::Supply;
 use control::supplies::mode_number;
 use control::supplies::supply_in;
 use control::supplies::supply_number;
-use control::waits::ESU_RISE;
-use control::waits::PSU_RISE;
-use control::waits::SUPPLY_CHANGE;
-use control::waits::SWE_RISE;
-use control::waits::renewed;
 use registers::Registers;
 use time::Time;
+use waits::ESU_RISE;
+use waits::PSU_RISE;
+use waits::SUPPLY_CHANGE;
+use waits::SWE_RISE;
+use waits::renewed;
 
 // Control, error, erase and the pending sense cleared.
 fn cleared(registers: Registers) -> Registers

@@ -6,9 +6,9 @@ ghost use Rattle.lent.specs.Looked.{answered};
 ghost use Rattle.snapshot.specs.Snapshot.{snapshotOf};
 ghost use Rattle.snapshot.specs.Asked.{validRefusal, validAnswer, writeRefusal, writtenOut, readRefusal, memoryRead, Left};
 use restore::read_snapshot;
-use restore::validity::see_valid;
 use save::write_snapshot;
 use time::Time;
+use validity::see_valid;
 
 // Whether a record's state is valid at a time.
 #[no_mangle]

@@ -2,16 +2,16 @@
 ghost use mathlib.Core.Path.{_≡_};
 ghost use Rattle.time.specs.Raw.{beforeLastSecond};
 ghost use Rattle.registers.specs.Latch.{takesData, latched, sensePending, dataTaken, dataWrite, write8};
+use bits::EV;
+use bits::PV;
+use bits::SWE;
+use bits::has;
 use control::Pending;
-use control::bits::EV;
-use control::bits::PV;
-use control::bits::SWE;
-use control::bits::has;
 use control::supplies::supply_number;
-use control::waits::SENSE;
 use registers::PAGE_BYTES;
 use registers::Registers;
 use time::Time;
+use waits::SENSE;
 
 // Whether a data write is taken.
 fn takes_data(registers: Registers, now: Time) -> bool

@@ -13,7 +13,7 @@ use cell::PAGE;
 use registers::Call;
 use registers::OpenPulse;
 use registers::Pulse;
-use settle::settling::word;
+use settling::word;
 
 // Bytes of a page, in an event word.
 const PAGE_BYTES: u64 = PAGE as u64;

@@ -6,14 +6,14 @@ ghost use lib.ListN.{length};
 ghost use Rattle.cell.specs.Cell.{arrayBytes, arrayCells, pages};
 ghost use Rattle.settle.specs.Pages.{slotsSound};
 ghost use Rattle.settle.specs.Settling.{verifySense, senseAddress, fourSensed, sensedBy};
+use bits::EV;
+use bits::PV;
 use cell::Sense;
-use cell::sensing::ceilings;
-use cell::sensing::sense_byte;
 use control::Pending;
-use control::bits::EV;
-use control::bits::PV;
 use control::verify::sense_due;
 use registers::Registers;
+use sensing::ceilings;
+use sensing::sense_byte;
 use settle::pages::byte_cells;
 use time::Time;
 

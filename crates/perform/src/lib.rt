@@ -16,7 +16,7 @@ use parts::answering::stored_answer;
 use parts::ending::end_pulse;
 use parts::verifying::sense;
 use registers::Call;
-use settle::settling::settle;
+use settling::settle;
 use time::Time;
 
 // The state after a call, its answer, and the number of event words given.

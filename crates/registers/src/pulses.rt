@@ -6,17 +6,17 @@ use crate::OpenPulse;
 use crate::PAGE_BYTES;
 use crate::Pulse;
 use crate::Registers;
+use bits::E;
+use bits::ESU;
+use bits::P;
+use bits::PSU;
+use bits::SWE;
+use bits::has;
 use cell::Direction;
-use control::bits::E;
-use control::bits::ESU;
-use control::bits::P;
-use control::bits::PSU;
-use control::bits::SWE;
-use control::bits::has;
 use control::blocks::erase_range;
 use control::supplies::supply_number;
-use control::waits::trip_wait;
 use time::Time;
+use waits::trip_wait;
 
 impl Registers {
     // A pulse's ready instant, from its own.

@@ -1,6 +1,5 @@
 // Reading a snapshot: it is gone through twice, first to judge it, then to take it, so that a refusal changes nothing.
 pub mod loading;
-pub mod validity;
 
 ghost use mathlib.Core.Path.{_≡_};
 ghost use lib.ListN.{length};
@@ -11,7 +10,6 @@ ghost use Rattle.snapshot.specs.Asked.{readRefusal, memoryRead, Left};
 ghost use Rattle.snapshot.specs.Places.{pagesPlace, countIn, pagesIndex, scanNumber, placeJudged, placeRead};
 use crate::loading::flash_at;
 use crate::loading::load_pages;
-use crate::validity::valid;
 use cell::FLASH_SIZE;
 use cell::PAGES;
 use coding::write;
@@ -23,6 +21,7 @@ use scan::scan;
 use scan::state_length;
 use snapshot::page_at;
 use time::Time;
+use validity::valid;
 
 // A snapshot whose fields are all good is taken, unless bytes are left over or its state is not valid.
 fn take(

@@ -10,10 +10,10 @@ ghost use Rattle.settle.specs.Settling.{charged};
 use cell::PAGE;
 use cell::PAGE_CELLS;
 use cell::PAGES;
-use cell::charging::bit;
-use cell::charging::charge_slot;
-use cell::charging::first_charge;
-use cell::charging::open_slot;
+use charging::bit;
+use charging::charge_slot;
+use charging::first_charge;
+use charging::open_slot;
 use registers::Pulse;
 use time::Duration;
 
