@@ -1,5 +1,5 @@
-// Every call over lent memory: its checks in document 01's order, then what it does and answers. No function here that a host calls
-// asks for anything.
+// Calls and looks over lent memory: their checks in document 01's order, and the new array. What each does and answers is in the
+// definitions; the crates `ask` and `see` have the functions. None that a host calls asks for anything.
 
 pub mod checking;
 pub mod making;
