@@ -1,15 +1,16 @@
--- A loop that replaces the elements of a list one after the other: the list after n turns, and that after all of them it is the map.
+-- A loop that replaces the elements of a list one after the other: the list after n turns, and that after all of them it is the map. Where
+-- the loop goes byte by byte with a loop over eight cells inside, what the inner one knows, and which bit a cell has.
 -- Assumes nothing.
 use mathlib.Core.Path.{_≡_, refl, sym, _∙_}
 use mathlib.Core.List.{List}
-use Prim.Native.Nat.{ℕ, zero, suc, _+_, _<_, _≤_}
+use Prim.Native.Nat.{ℕ, zero, suc, _+_, _*_, _/_, _%_, _<_, _≤_}
 use native.Mathlib.Nat.{not-suc-le-zero}
 use native.Mathlib.Numerals.{add-one}
 use native.Mathlib.Omega.{arith}
 use native.Mathlib.Decide.{ℕ-discrete}
 use lib.ListN.{length, getD, set, length-set}
 use lib.Seq.{getD-set-same, getD-set-other, ext-getD}
-use Rattle.cell.specs.Cell.{mapi}
+use Rattle.cell.specs.Cell.{mapi, at, bit, pageBit}
 use Rattle.cell.proofs.Maps.{length-mapi, getD-mapi}
 
 abbrev pub partly : (ℕ → ℕ → ℕ) → ℕ → List ℕ → List ℕ
@@ -44,3 +45,15 @@ partly-all f xs n e =
     ext-getD 0 (partly f n xs) (mapi f 0 xs) (length-partly f n xs ∙ sym (length-mapi f 0 xs))
     (λ i h. let l = length-partly f n xs in
     partly-below f n xs i (omega arith) (omega arith) ∙ sym (getD-mapi f xs i (omega arith)))
+
+-- In a loop inside another: a list that became ys in n turns has become zs in m turns.
+abbrev pub Further : (ℕ → ℕ → ℕ) → ℕ → ℕ → List ℕ → List ℕ → Type 0
+Further f n m ys zs = (xs : List ℕ) → ys ≡ partly f n xs → zs ≡ partly f m xs
+
+-- the bit of the cell k of the byte i
+pub cell-bit : (bytes : List ℕ) (i k : ℕ) → k < 8 → pageBit bytes (8 * i + k) ≡ bit (at bytes i) k
+unfolding pageBit
+cell-bit bytes i k h =
+    let d : (8 * i + k) / 8 ≡ i = omega arith in
+    let m : (8 * i + k) % 8 ≡ k = omega arith in
+    rw (d, m)

@@ -37,7 +37,8 @@ fn amount(direction: Direction, exposure: Duration) -> u64
     each * exposure.1
 }
 
-// A cell's charge moved by an amount; `latched` is the cell's latched bit.
+// A cell's charge moved by an amount; `latched` is the cell's latched bit. From which charge on a cell gets full depends on the amount alone,
+// so that a loop over cells works it out once.
 fn moved(direction: Direction, latched: u8, amount: u64, q: u64) -> u64
     ensures { λ r. ⌜ r ≡ moved direction latched amount q ⌝ }
 {
@@ -46,10 +47,10 @@ fn moved(direction: Direction, latched: u8, amount: u64, q: u64) -> u64
             if latched != 0 {
                 return q;
             }
-            if FULL <= q {
+            if FULL <= amount {
                 return FULL;
             }
-            if FULL - q <= amount {
+            if FULL - amount <= q {
                 return FULL;
             }
             q + amount
@@ -85,29 +86,40 @@ pub fn first_charge(stored: u8) -> u64
     if stored == 1 { 0 } else { FULL }
 }
 
-// A page's first charges, from its stored bytes.
+// A page's first charges, from its stored bytes: each is read once for its eight cells.
 fn open(cells: &mut [u64], bytes: &[u8])
     requires { ⌜ (length (now cells) ≡ pageCells) × (length (now bytes) ≡ pageBytes) ⌝ }
     ensures { λ _. ⌜ now (cells .exit) ≡ openedPage (now (bytes .entry)) (now (cells .entry)) ⌝ }
 {
     let mut i: usize = 0;
-    while i < PAGE_CELLS {
-        cells[i] = first_charge(bit(bytes[i / 8], i % 8));
+    while i < PAGE {
+        let stored = bytes[i];
+        let mut k: usize = 0;
+        while k < 8 {
+            let j = 8 * i + k;
+            cells[j] = first_charge(bit(stored, k));
+            k += 1;
+        }
         i += 1;
     }
 }
 
-// A page's charges after an exposure.
+// A page's charges after an exposure. Each byte of the latch is read once for its eight cells.
 fn charge(cells: &mut [u64], latch: &[u8; PAGE], direction: Direction, exposure: Duration)
     requires { ⌜ length (now cells) ≡ pageCells ⌝ }
     ensures { λ _. ⌜ now (cells .exit) ≡ chargedPage direction (now (latch .entry)) (span exposure) (now (cells .entry)) ⌝ }
 {
     let by = amount(direction, exposure);
     let mut i: usize = 0;
-    while i < PAGE_CELLS {
-        let latched = bit(latch[i / 8], i % 8);
-        let q = cells[i];
-        cells[i] = moved(direction, latched, by, q);
+    while i < PAGE {
+        let latched = latch[i];
+        let mut k: usize = 0;
+        while k < 8 {
+            let j = 8 * i + k;
+            let q = cells[j];
+            cells[j] = moved(direction, bit(latched, k), by, q);
+            k += 1;
+        }
         i += 1;
     }
 }

@@ -1,5 +1,6 @@
 -- The page index walked: testing its entries from the last one down. What is true of
--- the entries passed goes over to one more; what fails at one of them fails for the whole index. Assumes nothing.
+-- the entries passed goes over to one more; what fails at one of them fails for the whole index; an index without opened pages is sound.
+-- Assumes nothing.
 use mathlib.Core.Path.{_≡_, refl, sym, _∙_}
 use mathlib.Core.Bool.{Bool, true, false, not, _&&_, _||_}
 use mathlib.Core.List.{List, [], _∷_}
@@ -92,3 +93,14 @@ module _ (n i : ℕ) (xs : List ℕ) (h : i < length xs) where
 pub all-passed : (n : ℕ) (xs : List ℕ) (marked : List Bool) → Passed n 0 xs marked → n ≡ opened xs → slotsSound xs ≡ true
 unfolding slotsSound
 all-passed n xs marked p e = rw (← e, p .inside, p .apart)
+
+-- without opened pages all entries are 0
+zeros-sound : (xs : List ℕ) → opened xs ≡ 0 → (within 0 xs && distinct xs) ≡ true
+unfolding opened within distinct
+zeros-sound [] e = refl
+zeros-sound (zero ∷ xs) e = zeros-sound xs e
+zeros-sound (suc x ∷ xs) e = absurd (omega arith)
+
+pub none-opened : (xs : List ℕ) → opened xs ≡ 0 → slotsSound xs ≡ true
+unfolding slotsSound
+none-opened xs e = rw e (zeros-sound xs e)

@@ -24,20 +24,21 @@ fn wide(entry: u16) -> usize
     entry as usize
 }
 
-// How many pages are opened.
+// How many pages are opened, counted as wide as an entry, so that many entries are tested at once.
 pub fn opened(indices: &[u16]) -> usize
     requires { ⌜ length (now indices) ≡ pages ⌝ }
     ensures { λ r. ⌜ (r ≡ opened (now (indices .entry))) × (r ≤ pages) ⌝ }
 {
-    let mut n: usize = 0;
-    let mut i: usize = PAGES;
-    while 0 < i {
-        i -= 1;
-        if indices[i] != 0 {
+    let mut n: u16 = 0;
+    let mut i: usize = 0;
+    while i < PAGES {
+        let entry = indices[i];
+        i += 1;
+        if entry != 0 {
             n += 1;
         }
     }
-    n
+    wide(n)
 }
 
 // The charge of the cell i.

@@ -1,9 +1,11 @@
--- `settle::pages::opened` meets its contract. The loop's invariant: the count is that of the entries passed, from the last one down.
+-- `settle::pages::opened` meets its contract. The loop's invariant: the count, and the opened pages of the entries that are left, are together
+-- those of the index.
 -- Assumes nothing.
-use mathlib.Core.Path.{_≡_, refl, sym, ap, _∙_}
+use mathlib.Core.Path.{_≡_, refl, ap}
 use mathlib.Core.Logic.{_≢_}
 use mathlib.Core.List.{List, _∷_}
 use Prim.Native.Nat.{ℕ, zero, suc, _+_, _-_, _≤_, _<_}
+use native.Mathlib.Numerals.{add-one}
 use native.Mathlib.Omega.{arith}
 use lib.ListN.{length, drop}
 use lib.Seq.{drop-cons, drop-length}
@@ -21,31 +23,31 @@ unfolding opened
 opened-suc zero xs n = absurd (n refl)
 opened-suc (suc x) xs n = omega arith
 
--- the entries from one place earlier on
-earlier : (l : List ℕ) (i : ℕ) → 0 < i → i ≤ length l → drop (i - 1) l ≡ at l (i - 1) ∷ drop i l
-earlier l i h k = let e : suc (i - 1) ≡ i = omega arith in drop-cons l (i - 1) 0 (omega arith) ∙ rw e
+-- the entries from i on begin with the entry i
+from : (l : List ℕ) (i : ℕ) → i < length l → drop i l ≡ at l i ∷ drop (i + 1) l
+from l i h = rw (add-one, drop-cons l i 0)
 
-all-passed : (l : List ℕ) → length l ≡ 384 → opened (drop 384 l) ≡ 0
+none-left : (l : List ℕ) (i : ℕ) → i ≡ length l → opened (drop i l) ≡ 0
 unfolding opened
-all-passed l e = ap (λ n. opened (drop n l)) (sym e) ∙ ap opened (drop-length l)
+none-left l i e = rw (e, drop-length)
 
 abbrev Inv-loop : tie.InvT-loop
-Inv-loop indices n₀ i₀ n i = (i ≤ 384) × (n + i ≤ 384) × (n ≡ opened (drop i indices))
+Inv-loop indices n₀ i₀ n i = (i ≤ 384) × (n ≤ i) × (n + opened (drop i indices) ≡ opened indices)
 
 abbrev μ-loop : tie.MeasureT-loop
-μ-loop indices n₀ i₀ n i = i
+μ-loop indices n₀ i₀ n i = 384 - i
 
 loop-holds : tie.Need-loop-holds Inv-loop μ-loop
-loop-holds c = (omega arith, omega arith, sym (all-passed (c .args .indices .now) (c .pre)))
+loop-holds c = (omega arith, omega arith, omega arith)
 
-sub-i : tie.Need-sub-i Inv-loop μ-loop
-sub-i c = omega arith
+mul-entry : tie.Need-mul-entry Inv-loop μ-loop
+mul-entry c = omega arith
 
-mul-if1 : tie.Need-mul-if1 Inv-loop μ-loop
-mul-if1 c = omega arith
+shared-slice-read-entry : tie.Need-shared-slice-read-entry Inv-loop μ-loop
+shared-slice-read-entry c = omega arith
 
-shared-slice-read-if1 : tie.Need-shared-slice-read-if1 Inv-loop μ-loop
-shared-slice-read-if1 c = omega arith
+add-i : tie.Need-add-i Inv-loop μ-loop
+add-i c = omega arith
 
 add-n : tie.Need-add-n Inv-loop μ-loop
 add-n c = omega arith
@@ -56,9 +58,9 @@ loop-less c = omega arith
 loop-again : tie.Need-loop-again Inv-loop μ-loop
 loop-again c =
     let b = c .before .before .before in
-    let l = b .before .args .indices .now in
+    let l = b .before .before .args .indices .now in
     let i = b .loop .i in
-    (omega arith, omega arith, rw (earlier l i (omega arith) (omega arith), opened-suc (at l (i - 1)) (drop i l) (omega arith)) (omega arith))
+    (omega arith, omega arith, omega (arith, ap opened (from l i (omega arith)), opened-suc (at l i) (drop (i + 1) l) (omega arith)))
 
 loop-less-2 : tie.Need-loop-less-2 Inv-loop μ-loop
 loop-less-2 c = omega arith
@@ -66,15 +68,18 @@ loop-less-2 c = omega arith
 loop-again-2 : tie.Need-loop-again-2 Inv-loop μ-loop
 loop-again-2 c =
     let b = c .before .before .before in
-    let l = b .before .args .indices .now in
+    let l = b .before .before .args .indices .now in
     let i = b .loop .i in
-    (omega arith, omega arith, rw (earlier l i (omega arith) (omega arith), opened-zero (at l (i - 1)) (drop i l) (omega arith)) (b .loop .inv .2))
+    (omega arith, omega arith, omega (arith, ap opened (from l i (omega arith)), opened-zero (at l i) (drop (i + 1) l) (omega arith)))
+
+wide-requires : tie.Need-wide-requires Inv-loop μ-loop
+wide-requires c κs = tt
 
 returns : tie.Need-returns Inv-loop μ-loop
 returns c =
-    let l = c .before .loop in
-    let e : l .i ≡ 0 = omega arith in
-    (l .inv .2 ∙ rw e, omega arith)
+    let l = c .before .before .before .before .args .indices .now in
+    let e = none-left l (c .before .before .loop .i) (omega arith) in
+    (omega arith, omega arith)
 
 pub opened-spec : {M : Type 1} → statement M
 opened-spec =
@@ -83,12 +88,13 @@ opened-spec =
     Inv-loop
     μ-loop
     loop-holds
-    sub-i
-    mul-if1
-    shared-slice-read-if1
+    mul-entry
+    shared-slice-read-entry
+    add-i
     add-n
     loop-less
     loop-again
     loop-less-2
     loop-again-2
+    wide-requires
     returns)
