@@ -1,13 +1,13 @@
 -- What an exposure leaves, cell by cell and byte by byte, 0 or not: a cell moves and a byte is sensed anew where the exposure reaches,
--- that is, where it is not 0 and covers the page. And the stores of a loop, one more at a time. Assumes nothing.
+-- that is, where it is not 0 and covers the page. And the stores of a loop, a byte or a page more at a time. Assumes nothing.
 use mathlib.Core.Path.{_≡_, refl, ap, sym, _∙_}
 use mathlib.Core.Bool.{Bool, true, false, cond, not, _&&_}
 use mathlib.Core.List.{List, [], _∷_}
-use Prim.Native.Nat.{ℕ, zero, suc, _+_, _-_, _*_, _/_, _<_}
+use Prim.Native.Nat.{ℕ, zero, suc, _+_, _-_, _*_, _/_, _<_, _≤_}
 use native.Mathlib.Numerals.{add-one}
 use native.Mathlib.Omega.{arith}
-use lib.ListN.{length, set, take, length-take}
-use lib.Seq.{sets, take-suc, take-length}
+use lib.ListN.{length, set, take, drop, length-take, length-drop}
+use lib.Seq.{sets, take-suc, take-add, take-length, getD-take, getD-drop, ext-getD}
 use lib.Dec.{eqb, eqb·suc-zero}
 use Rattle.time.specs.declared.Duration.{Duration}
 use Rattle.time.specs.Raw.{span}
@@ -22,7 +22,7 @@ use Rattle.settle.specs.Pages.{Cells, cellAt}
 use Rattle.settle.specs.Settling.{covers, charged, ruled, normalByte, expose}
 use Rattle.flash.specs.Looking.{exposedBy, allBlank}
 use Rattle.settle.proofs.Slots.{SlotsOf}
-use Rattle.settle.proofs.Expose.{resensed-here, resensed-else, expose-cell}
+use Rattle.settle.proofs.Expose.{resensed-here, resensed-else, expose-cell, expose-array-length}
 
 -- whether an exposure of l reaches page x
 abbrev pub reaches : Pulse → ℕ → ℕ → Bool
@@ -47,6 +47,17 @@ module _ (p : Pulse) (latch : List ℕ) where
   unfolding expose
   look-kept zero c a e = refl
   look-kept (suc l) c a e = resensed-else p _ (c .array) a (rw (eqb·suc-zero l) at e)
+
+  pub look-kept-page : (l : ℕ) (c : Cells) (x : ℕ) → reaches p l x ≡ false
+      → take 128 (drop (x * 128) (c .array)) ≡ take 128 (drop (x * 128) (expose p latch l c .array))
+  look-kept-page l c x e = ext-getD 0 _ _ (simp (length-take, length-drop, expose-array-length)) each
+    where
+      each : (i : ℕ) → i < length (take 128 (drop (x * 128) (c .array)))
+          → at (take 128 (drop (x * 128) (c .array))) i ≡ at (take 128 (drop (x * 128) (expose p latch l c .array))) i
+      each i h =
+          let k : i < 128 = omega (arith, simp length-take at h) in
+          let d : (x * 128 + i) / 128 ≡ x = omega arith in
+          simp (getD-take, getD-drop) (sym (look-kept l c (x * 128 + i) (rw d e)))
 
   look-sensed : (l : ℕ) (c : Cells) (a : ℕ) → a < length (c .array) → reaches p l (a / 128) ≡ true
       → at (expose p latch l c .array) a ≡ normalByte (λ i. exposedBy p latch l i (cellAt c i)) a
@@ -80,12 +91,20 @@ blank-turn start i image h =
     let d : start + (i + 1) ≡ suc (start + i) = omega arith in
     rw (e, d)
 
--- ---- the stores of a loop, one after the other
+-- ---- the stores of a loop, one after the other, and of a page after the other; they are those of vs from n on
 
-pub sets-turn : (l vs ys : List ℕ) (i v : ℕ) → ys ≡ sets l 0 (take i vs) → v ≡ at vs i → i < length vs → set ys i v ≡ sets l 0 (take (i + 1) vs)
-sets-turn l vs ys i v e d h =
-    let n : 0 + length (take i vs) ≡ i = simp length-take (omega arith) in
-    rw (d, e, add-one i, take-suc vs i 0, sets-append l 0 (take i vs) (at vs i ∷ []), n)
+pub sets-turn : (l vs ys : List ℕ) (n i v : ℕ) → ys ≡ sets l n (take i (drop n vs)) → v ≡ at vs (n + i) → n + i < length vs
+    → set ys (n + i) v ≡ sets l n (take (i + 1) (drop n vs))
+sets-turn l vs ys n i v e d h =
+    let k : i < length (drop n vs) = simp length-drop (omega arith) in
+    let m : n + length (take i (drop n vs)) ≡ n + i = simp (length-take, length-drop) (omega arith) in
+    rw (d, e, add-one i, take-suc (drop n vs) i 0 k, sets-append l n (take i (drop n vs)) (at (drop n vs) i ∷ []), m, getD-drop n vs i 0)
+
+pub sets-more : (l vs ys zs : List ℕ) (n m : ℕ) → ys ≡ sets l 0 (take n vs) → zs ≡ sets ys n (take m (drop n vs)) → n ≤ length vs
+    → zs ≡ sets l 0 (take (n + m) vs)
+sets-more l vs ys zs n m e d h =
+    let k : 0 + length (take n vs) ≡ n = simp length-take (omega arith) in
+    d ∙ rw (e, take-add n m vs, sets-append l 0 (take n vs) (take m (drop n vs)), k)
 
 pub sets-all : (l vs ys : List ℕ) (i : ℕ) → ys ≡ sets l 0 (take i vs) → i ≡ length vs → ys ≡ sets l 0 vs
 sets-all l vs ys i e d = e ∙ rw (d, take-length vs)

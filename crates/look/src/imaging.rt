@@ -2,7 +2,7 @@
 ghost use mathlib.Core.Path.{_≡_};
 ghost use mathlib.Core.Bool.{true};
 ghost use Prim.Native.Nat.{_<_, _≤_, _+_, _*_};
-ghost use lib.ListN.{length};
+ghost use lib.ListN.{length, take, drop};
 ghost use lib.Seq.{sets};
 ghost use Rattle.time.specs.Raw.{span};
 ghost use Rattle.cell.specs.declared.Sense.the-variants.{Normal};
@@ -14,8 +14,8 @@ ghost use Rattle.flash.specs.Looking.{exposedBy, allBlank, peekAt, blankAt, ima
 use crate::looking::exposed_by;
 use crate::looking::reaches;
 use crate::looking::view_at;
-use cell::FLASH_SIZE;
 use cell::PAGE;
+use cell::PAGES;
 use cell::Sense;
 use flash::Flash;
 use registers::Pulse;
@@ -132,7 +132,42 @@ pub fn blank_page(flash: Flash, array: &[u8], charges: &[u64], address: usize, t
     all_blank(&indices, array, charges, pulse, &latch, exposure, start)
 }
 
-// The bytes after an exposure, into `out`.
+// The stored bytes of the page that begins at `start`, into `out`.
+fn write_stored(array: &[u8], start: usize, out: &mut [u8])
+    requires { ⌜ (start + pageBytes ≤ length (now array)) × (start + pageBytes ≤ length (now out)) ⌝ }
+    ensures { λ _. ⌜ now (out .exit) ≡ sets (now (out .entry)) start (take pageBytes (drop start (now (array .entry)))) ⌝ }
+{
+    let mut i: usize = 0;
+    while i < PAGE {
+        out[start + i] = array[start + i];
+        i += 1;
+    }
+}
+
+// The bytes of the page that begins at `start` after an exposure, into `out`.
+fn write_exposed(
+    indices: &[u16],
+    array: &[u8],
+    charges: &[u64],
+    limits: &[u64; 256],
+    pulse: Pulse,
+    latch: &[u8; PAGE],
+    exposure: Duration,
+    start: usize,
+    out: &mut [u8],
+)
+    requires { ⌜ (length (now indices) ≡ pages) × (slotsSound (now indices) ≡ true) × (length (now array) ≡ arrayBytes) × (length (now charges) ≡ arrayCells) × (now limits ≡ ceilingTable Normal) × (start + pageBytes ≤ arrayBytes) × (arrayBytes ≤ length (now out)) ⌝ }
+    ensures { λ _. ⌜ now (out .exit) ≡ sets (now (out .entry)) start (take pageBytes (drop start (expose pulse (now (latch .entry)) (span exposure) (record { index = now (indices .entry); array = now (array .entry); charges = now (charges .entry) }) .array))) ⌝ }
+{
+    let mut i: usize = 0;
+    while i < PAGE {
+        let a = start + i;
+        out[a] = image_byte(indices, array, charges, limits, pulse, latch, exposure, a);
+        i += 1;
+    }
+}
+
+// The bytes after an exposure, into `out`: a page that the exposure does not reach is copied.
 fn write_image(
     indices: &[u16],
     array: &[u8],
@@ -146,10 +181,25 @@ fn write_image(
     ensures { λ _. ⌜ now (out .exit) ≡ sets (now (out .entry)) 0 (expose pulse (now (latch .entry)) (span exposure) (record { index = now (indices .entry); array = now (array .entry); charges = now (charges .entry) }) .array) ⌝ }
 {
     let limits = ceilings(Sense::Normal);
-    let mut i: usize = 0;
-    while i < FLASH_SIZE {
-        out[i] = image_byte(indices, array, charges, &limits, pulse, latch, exposure, i);
-        i += 1;
+    let mut page: usize = 0;
+    while page < PAGES {
+        let start = page * PAGE;
+        if reaches(pulse, exposure, page) {
+            write_exposed(
+                indices,
+                array,
+                charges,
+                &limits,
+                pulse,
+                latch,
+                exposure,
+                start,
+                out,
+            );
+        } else {
+            write_stored(array, start, out);
+        }
+        page += 1;
     }
 }
 

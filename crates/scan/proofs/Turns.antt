@@ -1,5 +1,5 @@
 -- The first refused field of a run, found by going through it: as long as nothing was refused, what the whole run answers is what its rest
--- answers; at the first refused field it is that field's number. So for limited bytes, the charges of a page, and the pages.
+-- answers; at the first refused field it is that field's number. So for limited bytes and the pages.
 -- Assumes nothing.
 use mathlib.Core.Path.{_≡_, refl, sym, _∙_}
 use mathlib.Core.Bool.{Bool, true, false, cond, _&&_}
@@ -16,9 +16,13 @@ use Rattle.cell.specs.Cell.{at, pageBytes, pageCells, pages, arrayBytes}
 use Rattle.flash.specs.Chip.{noPages}
 use Rattle.layout.specs.Layout.{word, placed}
 use Rattle.snapshot.specs.Asked.{first}
-use Rattle.snapshot.specs.Places.{pagesPlace, pageLength, pageAt, countIn, cellNumber, cellsNumber, addressNumber, withPage, pagesNumber, pagesIndex, bytesNumber, stateLength, stateNumber, countNumber, scanNumber}
+use Rattle.snapshot.specs.Places.{pagesPlace, pageLength, pageAt, countIn, cellsNumber, addressNumber, withPage, pagesNumber, pagesIndex, bytesNumber, stateLength, stateNumber, countNumber, scanNumber}
 
 -- ---- the first of two: r is the number of the one before
+
+pub first-none : (n : ℕ) → first n 0 ≡ n
+first-none zero = refl
+first-none (suc n) = refl
 
 pub first-passes : {m r : ℕ} (n : ℕ) → r ≡ m → r ≡ 0 → first m n ≡ n
 first-passes n e z = rw (sym e ∙ z)
@@ -29,7 +33,7 @@ first-stops {m = suc m} n e z = e
 
 -- ---- what is not refused
 
-not-nine : (t : Bool) (n : ℕ) → cond t 9 n ≡ 0 → (t ≡ false) × (n ≡ 0)
+pub not-nine : (t : Bool) (n : ℕ) → cond t 9 n ≡ 0 → (t ≡ false) × (n ≡ 0)
 not-nine true n e = absurd (omega arith)
 not-nine false n e = (refl, e)
 
@@ -67,37 +71,6 @@ no-limits limits xs i place h = rw (drop-of-length-le limits h)
 pub byte-there : (most : ℕ) (limits xs : List ℕ) (place : ℕ) → bytesNumber (most ∷ limits) xs place ≡ 0 → place < length xs
 unfolding bytesNumber
 byte-there most limits xs place e = leb-false (length xs) place (not-nine (leb (length xs) place) _ e .0)
-
--- ---- the charges of a page, after i of them
-
-pub record Cells (xs : List ℕ) (start number place i : ℕ) : Type 0 where
-  pub none : number ≡ 0
-  pub most : i ≤ pageCells
-  pub there : place ≡ start + 8 * i
-  pub rest : cellsNumber pageCells xs start ≡ cellsNumber (pageCells - i) xs place
-
-cells-next : (n : ℕ) (xs : List ℕ) (place : ℕ) → cellsNumber (suc n) xs place ≡ first (cellNumber xs place) (cellsNumber n xs (place + 8))
-unfolding cellsNumber
-cells-next n xs place = refl
-
-no-cells : (xs : List ℕ) (place : ℕ) → cellsNumber 0 xs place ≡ 0
-unfolding cellsNumber
-no-cells xs place = refl
-
-module _ {xs : List ℕ} {start number place i : ℕ} (c : Cells xs start number place i) where
-  pub cells-through : pageCells ≤ i → cellsNumber pageCells xs start ≡ 0
-  cells-through h = let e : pageCells - i ≡ 0 = omega arith in c .rest ∙ rw e (no-cells xs place)
-
-  module _ (h : i < pageCells) where
-    cells-step : cellsNumber pageCells xs start ≡ first (cellNumber xs place) (cellsNumber (pageCells - suc i) xs (place + 8))
-    cells-step = let e : pageCells - i ≡ suc (pageCells - suc i) = omega arith in c .rest ∙ rw e (cells-next (pageCells - suc i) xs place)
-
-    pub cell-good : {n : ℕ} → n ≡ cellNumber xs place → n ≡ 0 → Cells xs start n (place + 8) (i + 1)
-    cell-good e z =
-        record { none = z; most = omega arith; there = omega arith; rest = cells-step ∙ rw (add-one i) (first-passes _ e z) }
-
-    pub cell-bad : {n : ℕ} → n ≡ cellNumber xs place → (n ≡ 0 → ⊥) → n ≡ cellsNumber pageCells xs start
-    cell-bad e z = rw cells-step (first-stops _ e z)
 
 -- ---- the pages, after those of so many slots
 

@@ -1,12 +1,14 @@
 // The first field of a snapshot that is refused, in reading order. Nothing is kept but the page index.
 ghost use mathlib.Core.Path.{_≡_};
+ghost use mathlib.Core.Bool.{cond};
 ghost use mathlib.Core.List.{[]};
-ghost use Prim.Native.Nat.{_+_, _/_, _<_, _≤_, _^_};
+ghost use Prim.Native.Nat.{_+_, _*_, _/_, _<_, _≤_, _^_};
+ghost use lib.Dec.{leb, ltb};
 ghost use lib.ListN.{length};
-ghost use Rattle.cell.specs.Cell.{pages};
+ghost use Rattle.cell.specs.Cell.{FULL, pages};
 ghost use Rattle.flash.specs.Chip.{noPages};
 ghost use Rattle.layout.specs.Layout.{word};
-ghost use Rattle.snapshot.specs.Places.{pagesPlace, countIn, cellNumber, addressNumber, withPage, pagesNumber, pagesIndex, bytesNumber, stateLength, stateNumber, scanNumber};
+ghost use Rattle.snapshot.specs.Places.{pagesPlace, countIn, cellsNumber, addressNumber, withPage, pagesNumber, pagesIndex, bytesNumber, stateLength, stateNumber, scanNumber};
 use cell::FULL;
 use cell::PAGE;
 use cell::PAGE_CELLS;
@@ -19,6 +21,13 @@ use rows::numbers::get64;
 use snapshot::COUNT;
 use snapshot::FIRST_PAGE;
 use snapshot::page_at;
+use std::num::wrapping_sub_u64;
+
+// The highest bit of a charge.
+const TOP: u64 = 9223372036854775808;
+
+// A quarter of a page's cells.
+const QUARTER: usize = 256;
 
 // An address as a number of bytes.
 fn wide(address: u16) -> usize
@@ -27,18 +36,37 @@ fn wide(address: u16) -> usize
     address as usize
 }
 
-// A charge: 9 if the bytes end before it does, 10 if it is over FULL.
-fn cell_number(bytes: &[u8], at: usize) -> u32
-    requires { ⌜ at < 2 ^ 32 ⌝ }
-    ensures { λ r. ⌜ r ≡ cellNumber (now (bytes .entry)) at ⌝ }
+// The highest bit tells a charge over FULL: only then both it and what FULL less it wraps to have that bit.
+fn over(charge: u64) -> u64
+    ensures { λ r. ⌜ ltb r (2 ^ 63) ≡ leb charge FULL ⌝ }
 {
-    if bytes.len() < at + 8 {
-        return 9;
+    charge & wrapping_sub_u64(FULL, charge)
+}
+
+// Whether none of so many charges in a row is over FULL. Each is looked at, so that no turn of the loop asks whether to go on.
+fn none_over(bytes: &[u8], at: usize, count: usize) -> bool
+    requires { ⌜ at + 8 * count ≤ length (now bytes) ⌝ }
+    ensures { λ r. ⌜ cellsNumber count (now (bytes .entry)) at ≡ cond r 0 10 ⌝ }
+{
+    let mut all: u64 = 0;
+    let mut i: usize = 0;
+    while i < count {
+        all = all | over(get64(bytes, at + 8 * i));
+        i += 1;
     }
-    if FULL < get64(bytes, at) {
-        return 10;
+    all < TOP
+}
+
+// So many charges in a row: 10 if one that is there is over FULL, else 9 if one is not there, as those that are there come first.
+fn cells_number(bytes: &[u8], at: usize, count: usize) -> u32
+    requires { ⌜ at ≤ length (now bytes) ⌝ }
+    ensures { λ r. ⌜ r ≡ cellsNumber count (now (bytes .entry)) at ⌝ }
+{
+    let there = (bytes.len() - at) / 8;
+    if there < count {
+        return if none_over(bytes, at, there) { 9 } else { 10 };
     }
-    0
+    if none_over(bytes, at, count) { 0 } else { 10 }
 }
 
 // The address of a charge page: 9, or 10 if it is misaligned, past the end or in the index already.
@@ -68,7 +96,7 @@ fn enter_page(indices: &mut [u16], slot: usize, bytes: &[u8], at: usize)
     indices[page] = (slot + 1) as u16;
 }
 
-// The charge pages. Reading stops at the first bad cell.
+// The charge pages. Reading stops at the first quarter of a page that has a bad cell.
 fn scan_pages(bytes: &[u8], count: usize, indices: &mut [u16]) -> u32
     requires { ⌜ (count ≤ pages) × (length (now indices) ≡ pages) ⌝ }
     ensures { λ r. ⌜ (r ≡ pagesNumber count 0 (now (indices .entry)) (now (bytes .entry)) pagesPlace) × (r ≡ 0 → now (indices .exit) ≡ pagesIndex count 0 (now (indices .entry)) (now (bytes .entry)) pagesPlace) ⌝ }
@@ -85,12 +113,12 @@ fn scan_pages(bytes: &[u8], count: usize, indices: &mut [u16]) -> u32
         at += 2;
         let mut i: usize = 0;
         while i < PAGE_CELLS {
-            number = cell_number(bytes, at);
+            number = cells_number(bytes, at, QUARTER);
             if number != 0 {
                 break 'pages;
             }
-            at += 8;
-            i += 1;
+            at += 8 * QUARTER;
+            i += QUARTER;
         }
         slot += 1;
     }

@@ -1,10 +1,11 @@
 -- `scan::scan_pages` meets its contract. The loops' invariants: nothing was refused, and what all pages answer is what those
--- from the slot on answer; what all charges of the page answer is what those from i on answer. Assumes nothing.
+-- from the slot on answer; what all charges of the page answer is what those from i on answer, i a whole number of quarters. Assumes nothing.
 use mathlib.Core.Path.{refl, sym, _∙_}
 use Prim.Native.Nat.{_-_}
 use native.Mathlib.Nat.{sub-zero}
 use native.Mathlib.Omega.{arith}
-use Rattle.scan.proofs.Turns.{address-fits, Cells, cells-through, cell-good, cell-bad, Pages, pages-through, address-bad, cells-bad, page-good}
+use Rattle.scan.proofs.Charges.{Cells, cells-through, quarter-good, quarter-bad}
+use Rattle.scan.proofs.Turns.{address-fits, Pages, pages-through, address-bad, cells-bad, page-good}
 use Rattle.scan.proofs.scan_pages.Statement.{statement}
 use Rattle.scan.proofs.scan_pages.Tie as tie
 
@@ -37,10 +38,14 @@ add-at c = omega arith
 loop-holds : tie.Need-loop-holds Inv-loop μ-loop Inv-pages μ-pages
 loop-holds c =
     let b4 = c .before .before .before .before in
-    record { none = b4 .if1 .left; most = omega arith; there = omega arith; rest = refl }
+    let a = address-fits _ _ _ (sym (b4 .before .address-number .ensures) ∙ b4 .if1 .left) in
+    record { none = b4 .if1 .left; most = omega arith; quarters = refl; there = omega arith; fits = a .0; rest = refl }
 
-cell-number-requires : tie.Need-cell-number-requires Inv-loop μ-loop Inv-pages μ-pages
-cell-number-requires c κs = omega arith
+cells-number-requires : tie.Need-cells-number-requires Inv-loop μ-loop Inv-pages μ-pages
+cells-number-requires c κs = c .before .loop .inv .fits
+
+mul-at : tie.Need-mul-at Inv-loop μ-loop Inv-pages μ-pages
+mul-at c = omega arith
 
 add-at-2 : tie.Need-add-at-2 Inv-loop μ-loop Inv-pages μ-pages
 add-at-2 c = omega arith
@@ -54,7 +59,7 @@ loop-less c = omega arith
 loop-again : tie.Need-loop-again Inv-loop μ-loop Inv-pages μ-pages
 loop-again c =
     let b3 = c .before .before .before in
-    cell-good (b3 .loop .inv) (c .before .before .loop-test .taken) (c .before .cell-number .ensures) (c .if2 .left)
+    quarter-good (b3 .loop .inv) (c .before .before .loop-test .taken) (c .before .cells-number .ensures) (c .if2 .left)
 
 add-slot : tie.Need-add-slot Inv-loop μ-loop Inv-pages μ-pages
 add-slot c = omega arith
@@ -94,7 +99,7 @@ returns-3 c =
     let b8 = b3 .before .before .before .before .before in
     let b11 = b8 .before .before .before in
     let fine = sym (b8 .before .address-number .ensures) ∙ b8 .if1 .left in
-    let bad = cell-bad (b3 .loop .inv) (c .before .before .loop-test .taken) (c .before .cell-number .ensures) (c .if2 .taken) in
+    let bad = quarter-bad (b3 .loop .inv) (c .before .before .loop-test .taken) (c .before .cells-number .ensures) (c .if2 .taken) in
     (cells-bad (b11 .before .pages .inv) (b11 .pages-test .taken) fine bad (c .if2 .taken), λ e. absurd (c .if2 .taken e))
 
 pub scan-pages-spec : {M : Type 1} → statement M
@@ -110,7 +115,8 @@ scan-pages-spec =
     enter-page-requires
     add-at
     loop-holds
-    cell-number-requires
+    cells-number-requires
+    mul-at
     add-at-2
     add-i
     loop-less
