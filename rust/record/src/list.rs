@@ -10,9 +10,24 @@ use original::{event_word, refusal_number, Error, Event, Mode, Original, Output}
 const REGISTERS: [u16; 5] = [0xf020, 0xf021, 0xf022, 0xf023, 0xf02b];
 const NAME: usize = 62;
 
+/// A group: its name, its rows, and those of them that have an answer.
+pub struct Group {
+    pub name: String,
+    pub rows: usize,
+    pub answers: usize,
+}
+
+/// The whole list, and what it is made of.
+pub struct Recorded {
+    pub bytes: Vec<u8>,
+    pub sum: u32,
+    pub groups: Vec<Group>,
+    pub coverage: Coverage,
+}
+
 pub struct List {
     bytes: Vec<u8>,
-    groups: Vec<(String, usize)>,
+    groups: Vec<Group>,
     coverage: Coverage,
     chip: Original,
     /// As the replay has it: what the next restoring reads.
@@ -39,25 +54,24 @@ impl List {
     fn push(&mut self, row: Row) {
         self.bytes.extend(row.0);
         self.coverage.row(row.0[0]);
-        if let Some((_, rows)) = self.groups.last_mut() {
-            *rows += 1;
+        if let Some(group) = self.groups.last_mut() {
+            group.rows += 1;
         }
     }
 
-    /// The last row, with the number of rows and the sum of all bytes before the sum. Gives the bytes, the rows of each group, and what
-    /// is covered.
-    pub fn finish(mut self) -> (Vec<u8>, Vec<(String, usize)>, Coverage) {
+    /// The last row, with the number of rows and the sum of all bytes before the sum.
+    pub fn finish(mut self) -> Recorded {
         let rows = self.bytes.len() / ROW + 1;
         self.bytes.extend(Row::new(b'Z').size(rows).0);
         let end = self.bytes.len() - 4;
         let sum = crc32(&self.bytes[..end]);
         self.bytes[end..].copy_from_slice(&sum.to_le_bytes());
-        (self.bytes, self.groups, self.coverage)
+        Recorded { bytes: self.bytes, sum, groups: self.groups, coverage: self.coverage }
     }
 
     pub fn group(&mut self, name: &str) {
         assert!(name.len() <= NAME, "a name has room for {NAME} bytes: {name}");
-        self.groups.push((name.to_string(), 0));
+        self.groups.push(Group { name: name.to_string(), rows: 0, answers: 0 });
         let row = Row::new(b'G').value(name.len() as u8).put(2, name.as_bytes());
         self.push(row);
     }
@@ -82,6 +96,7 @@ impl List {
         self.buffer[..snapshot.len()].copy_from_slice(&snapshot);
         self.length = snapshot.len();
         self.coverage.pages(snapshot::pages(&snapshot));
+        self.groups.last_mut().expect("rows stand in groups").answers += 1;
         self.push(row);
     }
 
@@ -241,5 +256,25 @@ impl List {
             self.now = *at;
             self.call(*call);
         }
+    }
+}
+
+impl Recorded {
+    pub fn rows(&self) -> usize {
+        self.bytes.len() / ROW
+    }
+
+    /// What the replay writes where every answer is as recorded.
+    pub fn expected(&self) -> String {
+        let answers: usize = self.groups.iter().map(|group| group.answers).sum();
+        let line =
+            |group: &Group| format!("{}: {} answers as recorded\n", group.name, group.answers);
+        let lines: String = self.groups.iter().map(line).collect();
+        format!(
+            "{lines}total: {} groups, {answers} answers, 0 differ; list of {} rows, sum {:08x}, whole\n",
+            self.groups.len(),
+            self.rows(),
+            self.sum
+        )
     }
 }

@@ -1,10 +1,8 @@
 //! Records what the original answers to a fixed script of calls, as the list that the program crate `vectors` replays on the proved
-//! functions. The port has no part in it. Every run writes the same bytes. In `rust/`:
+//! functions, and what the replay writes where every answer is as recorded. The port has no part in it. Every run writes the
+//! same bytes. In `rust/`:
 //!
-//!     cargo run --offline --release -p record -- ../crates/vectors/data/answers
-//!
-//! The replay tells the list's sum, so another list wants another `crates/vectors/stdout`: `rt check vectors` leaves what the program
-//! wrote in `target/log/vectors.stdout`.
+//!     cargo run --offline --release -p record -- ../crates/vectors
 #![forbid(unsafe_code)]
 
 mod call;
@@ -17,32 +15,35 @@ mod row;
 mod snapshot;
 
 use list::List;
-use std::{env, fs, process::ExitCode};
+use std::{env, fs, path::PathBuf, process::ExitCode};
 
 fn main() -> ExitCode {
-    let Some(path) = env::args_os().nth(1) else {
-        eprintln!("usage: record FILE");
+    let Some(folder) = env::args_os().nth(1).map(PathBuf::from) else {
+        eprintln!("usage: record FOLDER, which gets data/answers and stdout");
         return ExitCode::FAILURE;
     };
     let mut list = List::new();
     for record in groups::ALL {
         record(&mut list);
     }
-    let (bytes, groups, coverage) = list.finish();
-    for (name, rows) in groups {
-        println!("{rows:6} rows  {name}");
+    let recorded = list.finish();
+    for group in &recorded.groups {
+        println!("{:6} rows, {:6} answers  {}", group.rows, group.answers, group.name);
     }
-    println!("{:6} rows, {} bytes\n{coverage}", bytes.len() / row::ROW, bytes.len());
-    let missing = coverage.missing();
+    println!("{:6} rows, {} bytes\n{}", recorded.rows(), recorded.bytes.len(), recorded.coverage);
+    let missing = recorded.coverage.missing();
     if !missing.is_empty() {
         eprintln!("not written: {}", missing.join(", "));
         return ExitCode::FAILURE;
     }
-    match fs::write(&path, bytes) {
-        Ok(()) => ExitCode::SUCCESS,
-        Err(error) => {
-            eprintln!("{}: {error}", path.to_string_lossy());
-            ExitCode::FAILURE
+    let expected = recorded.expected();
+    let files = [("data/answers", &recorded.bytes[..]), ("stdout", expected.as_bytes())];
+    for (name, bytes) in files {
+        let path = folder.join(name);
+        if let Err(error) = fs::write(&path, bytes) {
+            eprintln!("{}: {error}", path.display());
+            return ExitCode::FAILURE;
         }
     }
+    ExitCode::SUCCESS
 }
