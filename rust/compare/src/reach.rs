@@ -2,7 +2,7 @@
 use crate::history::{Start, Step, What};
 use crate::pair::Came;
 use crate::view::View;
-use doqtarbu::register::{E, EBR1, EV, FENR, FLMCR1, P, PV, SWE};
+use doqtarbu::register::{EBR1, EV, FENR, FLMCR1, PV, SWE};
 use doqtarbu::{Call, Event, FULL};
 
 macro_rules! reached {
@@ -339,8 +339,6 @@ impl Reach {
     }
 
     fn in_pulse(&mut self, v: &View, call: Call, after: &View) {
-        let none = v.control & (P | E) == 0;
-        debug_assert!(!none, "an open pulse has P or E");
         self.hit(R::Retargeted, v.retargets(call));
         match call {
             Call::WriteRegister { address: FENR, .. } => {

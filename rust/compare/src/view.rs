@@ -1,6 +1,6 @@
 //! What a snapshot says of the state, and which calls document 01 refuses in it. Written from document 01: the
 //! original refuses nothing of this, so it can't be asked.
-use doqtarbu::register::{E, EBR1, ESU, EV, FENR, FLMCR1, P, PSU, PV, SWE};
+use doqtarbu::register::{E, EBR1, ESU, EV, FENR, P, PSU, PV, SWE};
 use doqtarbu::{Call, ARRAY_BYTES};
 
 /// The bytes of the fields behind array and charge pages, without a pending sense.
@@ -191,15 +191,6 @@ impl View {
         let Some(Pulse { program: false, .. }) = self.pulse() else { return false };
         matches!(call, Call::WriteRegister { address: EBR1, value }
             if block(value) != block(self.erase) && self.enabled && value.count_ones() <= 1)
-    }
-
-    /// Whether a write to control ends a pulse as the manual wants it.
-    pub fn completes(&self, call: Call) -> bool {
-        let Some(pulse) = self.pulse() else { return false };
-        let setup = if pulse.program { PSU } else { ESU };
-        self.enabled
-            && matches!(call, Call::WriteRegister { address: FLMCR1, value }
-                if value & (SWE | PSU | ESU | 15) == SWE | setup)
     }
 }
 
