@@ -1,6 +1,6 @@
 use std::{error, fmt};
 
-/// Why the library did nothing: the lines of document 01's table, by their numbers.
+/// Why the library did nothing: the lines of document 01's table, by their numbers and in its words.
 #[derive(Clone, Copy, Debug, PartialEq, Eq, Hash)]
 #[repr(u32)]
 #[allow(missing_docs)] // each says itself below
@@ -60,23 +60,30 @@ impl fmt::Display for Refusal {
             Refusal::FirmwareLength => "firmware not 49,152 bytes",
             Refusal::LentLength => {
                 "record not of its one length, array not 49,152 bytes, \
-                 or charge store not 393,216 numbers"
+                 charge store not 393,216 numbers"
             }
-            Refusal::Record => "the record holds no state that is allowed",
-            Refusal::Address => "an address past the end, a bit over 7 or a mode over 5",
+            Refusal::Record => {
+                "record: a byte that is no flag, mode, supply or option; bytes that no state is \
+                 written as; control bit 7; page or pending address misaligned or past the end; \
+                 used slots not one-to-one with opened pages"
+            }
+            Refusal::Address => {
+                "byte read, peek, cell, blank page or data write at C000 hex or more; word BFFF hex \
+                 or more; bit over 7; mode over 5"
+            }
             Refusal::LastSecond => "whole seconds 2^64-1",
             Refusal::BeforeSettling => "before the last settling",
             Refusal::FewEventWords => {
                 "pulse open with range of k > 0 bytes and fewer than k+1 words"
             }
-            Refusal::ShortOutput => "too short for image or snapshot",
-            Refusal::SnapshotEndsEarly => "the snapshot ends early",
+            Refusal::ShortOutput => "output too short for image or snapshot",
+            Refusal::SnapshotEndsEarly => "snapshot ends early",
             Refusal::SnapshotField => {
-                "a flag, mode, supply or option byte is unknown, there are over 384 charge pages, \
-                 a page address is misaligned, past the end or repeated, or a charge is over FULL"
+                "snapshot: flag, mode, supply or option byte unknown; over 384 charge pages; page \
+                 address misaligned, past the end or repeated; charge over FULL"
             }
-            Refusal::SnapshotLeftOver => "bytes left over after the snapshot",
-            Refusal::SnapshotInvalid => "`validate` says no",
+            Refusal::SnapshotLeftOver => "snapshot: bytes left over",
+            Refusal::SnapshotInvalid => "snapshot: `validate` says no",
         };
         write!(f, "refused by {}: {words}", self.number())
     }
