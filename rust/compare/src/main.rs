@@ -6,6 +6,7 @@ use compare::history::History;
 use compare::pair::{Came, Differs, Pair};
 use compare::reach::Reach;
 use compare::shrink;
+use doqtarbu::Event;
 use std::process::ExitCode;
 use std::sync::atomic::{AtomicBool, AtomicU64, Ordering};
 use std::sync::Mutex;
@@ -188,12 +189,18 @@ fn replay(file: &str) -> ExitCode {
     ExitCode::SUCCESS
 }
 
+/// The events of a call that a replay shows.
+const SHOWN: usize = 8;
+
 fn words(came: &Came) -> String {
     match came {
         Came::Answered { value, words } => {
-            let events: Vec<_> =
-                words.iter().take(8).filter_map(|w| doqtarbu::Event::from_word(*w)).collect();
-            format!("answered, value {value:04X}, {} events, the first: {events:02X?}", words.len())
+            let read = value.map_or(String::new(), |value| format!(" {value:02X}"));
+            let events = words.iter().take(SHOWN).filter_map(|word| Event::from_word(*word));
+            let events: String = events.map(|event| format!("\n    {event:02X?}")).collect();
+            let more = words.len().saturating_sub(SHOWN);
+            let more = if more > 0 { format!("\n    and {more} more") } else { String::new() };
+            format!("answered{read}{events}{more}")
         }
         Came::Refused(number) => format!("refused by {number}"),
         Came::Looked => "looks agree".into(),

@@ -18,7 +18,7 @@ const READ: [u16; 8] = [0xf020, 0xf021, 0xf022, 0xf023, 0xf02b, 0xf024, 0xf01f, 
 /// What a step came to.
 #[derive(Clone, Debug, PartialEq, Eq)]
 pub enum Came {
-    Answered { value: u16, words: Vec<u64> },
+    Answered { value: Option<u16>, words: Vec<u64> },
     Refused(u32),
     Looked,
     Restored,
@@ -192,12 +192,13 @@ impl Pair {
         }
         self.events.clear();
         let read = self.original_call(call, at).map_err(|e| format!("the original errs: {e:?}"))?;
-        let read = match call {
-            Call::Read8 { .. } => MARK as u16 & 0xff00 | read,
-            Call::Read16 { .. } => read,
-            _ => MARK as u16,
+        // Calls that read nothing leave the value as it was, a byte read its high half.
+        let (left, read) = match call {
+            Call::Read8 { .. } => (MARK as u16 & 0xff00 | read, Some(read)),
+            Call::Read16 { .. } => (read, Some(read)),
+            _ => (MARK as u16, None),
         };
-        same("value", value, read)?;
+        same("value", value, left)?;
         if let Some(event) = self.events.iter().find(|event| event.time().raw() != at) {
             return Err(format!("an event of the original at another time: {event:?}"));
         }
