@@ -1,4 +1,4 @@
-//! The differences that docs/DIFFERENCES.md lists, each shown on both sides by its smallest input. All lie outside document 01's domain.
+//! The differences that docs/DIFFERENCES.md lists and that a call can show, by their smallest inputs. All lie outside document 01's domain.
 use compare::view::View;
 use doqtarbu::register::{E, EBR1, ESU, FENR, FLMCR1, FLMCR2, P, PSU, SWE};
 use doqtarbu::{Flash, Instant, Lent, Refusal, ARRAY_BYTES, FULL, PAGE_BYTES};
