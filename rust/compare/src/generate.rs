@@ -480,28 +480,7 @@ impl Generator {
                 let value = if self.large { 1 << self.rng.below(8) } else { small };
                 self.write(charge, EBR1, value);
             }
-            7 => self.any_environment(charge),
-            8 => {
-                let (mode, module, oscillator) = (view.mode, view.module, view.oscillator);
-                self.call(charge, Call::Environment { mode, module, oscillator });
-            }
-            9 => {
-                let mode = self.rng.pick(&[0, 1, 2]);
-                self.call(charge, Call::Environment { mode, module: true, oscillator: true });
-            }
-            10 => {
-                let address = self.address();
-                self.call(charge, Call::Read8 { address });
-            }
-            11 => {
-                let address = self.address().min(0xbffe);
-                self.call(charge, Call::Read16 { address });
-            }
-            12 => self.call(charge, Call::Protect),
-            13 => {
-                let call = self.rng.pick(&[Call::Reset, Call::PowerOff]);
-                self.call(charge, call);
-            }
+            kind @ 7..=13 => self.disturb(kind, view, charge),
             14 | 15 => self.look(view),
             16 => self.room(view, charge),
             17 => self.refused(view),
@@ -509,6 +488,26 @@ impl Generator {
             19 => self.any_write(),
             _ => self.close(pulse.program, charge),
         }
+    }
+
+    /// What comes from outside while a pulse is open: the environment, reads, protection, reset, power-off.
+    fn disturb(&mut self, kind: u64, view: &View, when: When) {
+        let call = match kind {
+            7 => return self.any_environment(when),
+            8 => {
+                let (mode, module, oscillator) = (view.mode, view.module, view.oscillator);
+                Call::Environment { mode, module, oscillator }
+            }
+            9 => {
+                let mode = self.rng.pick(&[0, 1, 2]);
+                Call::Environment { mode, module: true, oscillator: true }
+            }
+            10 => Call::Read8 { address: self.address() },
+            11 => Call::Read16 { address: self.address().min(0xbffe) },
+            12 => Call::Protect,
+            _ => self.rng.pick(&[Call::Reset, Call::PowerOff]),
+        };
+        self.call(when, call);
     }
 
     /// A call that settles, lent a word too few or fewer, and then just enough.

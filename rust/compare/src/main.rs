@@ -17,7 +17,9 @@ compare: gives the port and the original the same histories of calls and compare
 
   compare [--calls N] [--seed S] [--jobs J]   random histories until N calls are made (default 2000000, seed 1)
   compare --replay FILE                       one history, as a difference prints it
-  compare --wrong NAME | all [--seed S]       a wrong version of the port has to be caught (built with --features wrong)
+  compare --wrong NAME | all [--seed S]       a wrong version of the port has to be caught (built with --features wrong);
+                                              of one alone the shortest history is printed
+  compare --wrong NAME --replay FILE          that history on the wrong version
 
 After each call: answer, value, event words, registers, image, charges, normal, validate and snapshot bytes; after a refusal,
 that nothing changed. Prints how often each situation was reached. Exits 0 if nothing differs and every situation was
@@ -66,7 +68,7 @@ fn main() -> ExitCode {
         }
     };
     match (&options.replay, &options.wrong) {
-        (Some(file), _) => replay(file),
+        (Some(file), name) => replay(file, name.as_deref()),
         (None, Some(name)) => wrong(name, options.seed),
         (None, None) => compare(&options),
     }
@@ -156,7 +158,7 @@ fn show(pair: &mut Pair, history: History, differs: &str) {
     print!("{short}");
 }
 
-fn replay(file: &str) -> ExitCode {
+fn replay(file: &str, wrong: Option<&str>) -> ExitCode {
     let text = match std::fs::read_to_string(file) {
         Ok(text) => text,
         Err(why) => {
@@ -172,6 +174,9 @@ fn replay(file: &str) -> ExitCode {
         }
     };
     let mut pair = Pair::new();
+    if wrong.is_some_and(|name| !spoil(&mut pair, name)) {
+        return ExitCode::from(2);
+    }
     if let Err(differs) = pair.start(history.start) {
         println!("at the start: {differs}");
         return ExitCode::from(1);
@@ -214,17 +219,40 @@ fn wrong(_: &str, _: u64) -> ExitCode {
     ExitCode::from(2)
 }
 
-/// Gives a wrong version up to a minute to be caught.
+#[cfg(not(feature = "wrong"))]
+fn spoil(_: &mut Pair, name: &str) -> bool {
+    wrong(name, 0);
+    false
+}
+
+/// The wrong versions of a name, or none, which is then said.
 #[cfg(feature = "wrong")]
-fn wrong(name: &str, seed: u64) -> ExitCode {
+fn chosen(name: &str) -> Vec<compare::wrong::Wrong> {
     use compare::wrong::Wrong;
-    let chosen: Vec<Wrong> =
-        Wrong::ALL.iter().copied().filter(|w| name == "all" || name == w.word()).collect();
+    let all = Wrong::ALL.iter().copied();
+    let chosen: Vec<Wrong> = all.filter(|w| name == "all" || name == w.word()).collect();
     if chosen.is_empty() {
         let all: Vec<_> = Wrong::ALL.iter().map(|w| w.word()).collect();
         eprintln!("compare: no wrong version {name}; there are: all {}", all.join(" "));
+    }
+    chosen
+}
+
+/// Puts a wrong version in the port's place.
+#[cfg(feature = "wrong")]
+fn spoil(pair: &mut Pair, name: &str) -> bool {
+    pair.wrong = chosen(name).first().copied();
+    pair.wrong.is_some()
+}
+
+/// Gives a wrong version up to a minute to be caught.
+#[cfg(feature = "wrong")]
+fn wrong(name: &str, seed: u64) -> ExitCode {
+    let chosen = chosen(name);
+    if chosen.is_empty() {
         return ExitCode::from(2);
     }
+    let alone = chosen.len() == 1;
     let mut missed = 0;
     for wrong in chosen {
         let (mut pair, mut reach) = (Pair::new(), Reach::default());
@@ -242,8 +270,11 @@ fn wrong(name: &str, seed: u64) -> ExitCode {
         match caught {
             Some((history, differs)) => {
                 println!("  caught in {seconds:.2} s, after {} calls: {differs}", reach.calls);
-                let (short, _) = shrink::shrink(&mut pair, history);
+                let (short, differs) = shrink::shrink(&mut pair, history);
                 println!("  shortest history: {} steps", short.steps.len());
+                if alone {
+                    print!("# {differs}\n{short}");
+                }
             }
             None => {
                 missed += 1;

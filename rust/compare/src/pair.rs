@@ -289,9 +289,10 @@ impl Pair {
 
     fn image(&mut self, at: u128) -> Result<(), Differs> {
         let late = self.view.untimely(at);
+        let held = (late != 0).then(|| self.port_image.clone());
         same("image's refusal", self.port.image(Instant(at), &mut self.port_image), late)?;
-        if late != 0 {
-            return Ok(());
+        if let Some(held) = held {
+            return same_bytes("output of a refused image", &self.port_image, &held);
         }
         let image = self.original.image(at);
         same_bytes("image", &self.port_image, &image[..])

@@ -289,18 +289,7 @@ impl Reach {
             }
             Call::Write8 { .. } => {
                 self.hit(R::Write8, true);
-                let on = v.control & SWE != 0 && v.supply == 0 && v.oscillator;
-                if on && v.control & 15 == 0 {
-                    let later = v.recovery.max(v.swe_ready);
-                    let swe = v.swe_ready == later;
-                    let edges =
-                        if swe { [R::SweBefore, R::SweAt] } else { [R::LatchBefore, R::LatchAt] };
-                    self.hit(edges[0], later.checked_sub(1) == Some(at));
-                    self.hit(edges[1], at == later);
-                }
-                let pending = after.pending.is_some() && after.pending != v.pending;
-                self.hit(R::PvPending, pending && v.control & 15 == PV);
-                self.hit(R::EvPending, pending && v.control & 15 == EV);
+                self.data_write(v, at, after);
             }
             Call::Read8 { .. } => {
                 self.hit(R::Read8, true);
@@ -320,6 +309,20 @@ impl Reach {
             }
         }
         self.hit(R::ProtectIdle, call == Call::Protect && v.pulse().is_none());
+    }
+
+    fn data_write(&mut self, v: &View, at: u128, after: &View) {
+        let on = v.control & SWE != 0 && v.supply == 0 && v.oscillator;
+        if on && v.control & 15 == 0 {
+            let later = v.recovery.max(v.swe_ready);
+            let swe = v.swe_ready == later;
+            let edges = if swe { [R::SweBefore, R::SweAt] } else { [R::LatchBefore, R::LatchAt] };
+            self.hit(edges[0], later.checked_sub(1) == Some(at));
+            self.hit(edges[1], at == later);
+        }
+        let pending = after.pending.is_some() && after.pending != v.pending;
+        self.hit(R::PvPending, pending && v.control & 15 == PV);
+        self.hit(R::EvPending, pending && v.control & 15 == EV);
     }
 
     fn read(&mut self, v: &View, at: u128) {

@@ -31,8 +31,8 @@ wrongs! {
     Rate99 "rate-99" "programming adds 99 L"
     EraseToOne "erase-to-one" "erasing leaves at least 1"
     ErrorCleared "error-cleared" "a write to F020 clears error"
-    OpenedFromNew "opened-from-new" "a page is opened from the new bytes"
-    LimitItself "limit-itself" "a charge at the normal limit itself senses 1"
+    OpenedFromNew "opened-from-new" "a page that a settling opens gets the first charges of the bytes after it"
+    LimitItself "limit-itself" "a charge that a pulse moved to the normal limit itself senses 1"
     VerifyNormal "verify-normal" "program verify senses by the normal limit"
     EventsFalling "events-falling" "byte events in falling address"
     AllCompleted "all-completed" "every pulse ends completed"
@@ -77,12 +77,7 @@ impl Wrong {
     ) -> u32 {
         let before = (self.needs_charges() && v.pulse().is_some())
             .then(|| (lent.array.clone(), lent.charges.clone()));
-        let early = matches!(call, Call::Read8 { .. } | Call::Read16 { .. })
-            && v.control & 0x3f == 0
-            && v.supply != 2
-            && v.recovery == at + 1
-            && at >= v.ready;
-        if self == Wrong::ReadEarly && early {
+        if self == Wrong::ReadEarly && early(v, call, at) {
             // Served as from a chip whose recovery is over; nothing is kept.
             let mut copy = lent.clone();
             edit(&mut copy, |b, w| put(b, w.fields + offset::RECOVERY, at));
@@ -92,10 +87,11 @@ impl Wrong {
         if self == Wrong::LatchKept {
             edit(lent, |b, w| latch.copy_from_slice(&b[w.fields + offset::LATCH..][..128]));
         }
+        let held = *count;
         let number = lent.call(call, Instant(at), value, count);
         if number != 0 {
             if self == Wrong::RefusedCounts {
-                *count = 1;
+                *count = held;
             }
             return number;
         }
@@ -108,24 +104,23 @@ impl Wrong {
             Wrong::SettlesUnchanged if matches!(call, Call::Environment { .. }) => {
                 edit(lent, |b, w| put(b, w.fields + offset::PULSE_SINCE, at));
             }
-            Wrong::EventsFalling => {
-                let words = &mut lent.events[..*count as usize];
-                let bytes = words.iter().take_while(|word| **word >> 32 == 1).count();
-                words[..bytes].reverse();
-            }
-            Wrong::AllCompleted => {
-                for word in &mut lent.events[..*count as usize] {
-                    if *word >> 32 == 3 {
-                        *word -= 1 << 32;
-                    }
-                }
-            }
-            _ => {}
+            _ => self.events(&mut lent.events[..*count as usize]),
         }
         if let Some((array, charges)) = before {
             self.after_pulse(lent, v, &array, &charges);
         }
         number
+    }
+
+    /// What goes wrong with the event words.
+    fn events(self, words: &mut [u64]) {
+        if self == Wrong::EventsFalling {
+            let bytes = words.iter().take_while(|word| **word >> 32 == 1).count();
+            words[..bytes].reverse();
+        }
+        if self == Wrong::AllCompleted {
+            words.iter_mut().filter(|word| **word >> 32 == 3).for_each(|word| *word -= 1 << 32);
+        }
     }
 
     fn needs_charges(self) -> bool {
@@ -211,6 +206,13 @@ impl Wrong {
             bytes[span].copy_from_slice(&pages.concat());
         }
     }
+}
+
+/// Whether it is a read that would be served one raw unit later.
+fn early(v: &View, call: Call, at: u128) -> bool {
+    let read = matches!(call, Call::Read8 { .. } | Call::Read16 { .. });
+    let reading = v.control & 0x3f == 0 && v.supply != 2 && at >= v.ready;
+    read && reading && v.recovery == at + 1
 }
 
 /// Four bytes as they are sensed normally.

@@ -57,6 +57,9 @@ fn address_past_the_end() {
         original.write_register(address, value, 0, &mut ()).unwrap();
     }
     assert_eq!(port.write8(0xc000, 0, Instant(SECOND)), Err(Refusal::Address));
+    let mut unserved = original.clone();
+    unserved.write_register(FLMCR1, SWE | PSU, SECOND, &mut ()).unwrap();
+    assert_eq!(unserved.read8(0xc000, SECOND, &mut ()), Ok(0xff));
     original.write8(0xc000, 0, SECOND, &mut ()).unwrap();
     assert_eq!(View::of(&snapshot(&original)).page, 0xc000);
     assert!(original.validate(SECOND).is_err());
