@@ -1,0 +1,4 @@
+pub mod Runs
+pub mod Spelled
+pub mod Parts
+pub mod Places
