@@ -1,0 +1,4 @@
+pub mod Joined
+mod Spelled
+mod Filling
+mod Worked
