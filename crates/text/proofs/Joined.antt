@@ -8,7 +8,7 @@ use native.Mathlib.Omega.{arith}
 use native.Mathlib.Decide.{decLe}
 use lib.ListN.{length, set, take, length-append, length-take, length-set}
 use lib.Seq.{sets, length-sets, set-out, take-nil, take-all}
-use Rattle.text.specs.Puts.{fitting, Puts}
+use Rattle.text.specs.Puts.{fitting, Ends, Puts}
 
 -- ---- runs of stores
 
@@ -45,29 +45,35 @@ end-cut out text at h = rw (length-take, min-eq-left h)
 
 -- ---- putting
 
+ends-same : (at : ℕ) (out : List ℕ) → Ends at out at
+ends-same at out = record { onward = omega arith; within = omega arith }
+
 pub puts-none : (at : ℕ) (out : List ℕ) → Puts [] at out out at
 puts-none at out =
     let none = take-nil {A = ℕ} (length out - at) in
-    record { left-is = rw none; end-is = rw (none, add-zero); within = λ h. h }
+    record { left-is = rw none; end-is = rw (none, add-zero); ends = ends-same at out }
 
 pub puts-byte : (b at : ℕ) (out : List ℕ) → at < length out → Puts (b ∷ []) at out (set out at b) (at + 1)
 puts-byte b at out h = record {
   left-is = sym (sets-fitting out at (b ∷ []));
   end-is = sym (end-fits out (b ∷ []) at (omega arith));
-  within = λ _. omega arith;
+  ends = record { onward = omega arith; within = omega arith };
 }
 
 pub puts-no-byte : (b at : ℕ) (out : List ℕ) → length out ≤ at → Puts (b ∷ []) at out out at
 puts-no-byte b at out h =
     let none : length out - at ≡ 0 = omega arith in
-    record { left-is = rw none; end-is = rw (none, add-zero); within = λ w. w }
+    record { left-is = rw none; end-is = rw (none, add-zero); ends = ends-same at out }
 
 pub puts-append : (xs ys : List ℕ) (at mid end : ℕ) (out half left : List ℕ)
     → Puts xs at out half mid → Puts ys mid half left end → Puts (xs ++ ys) at out left end
 puts-append xs ys at mid end out half left p q = record {
   left-is = q .left-is ∙ sets-fitting half mid ys ∙ stores (decLe (length xs) (length out - at)) ∙ sym (sets-fitting out at (xs ++ ys));
-  end-is = q .end-is ∙ ends (decLe (length xs) (length out - at));
-  within = λ h. let w = p .within h in let v = q .within (omega (arith, long)) in omega (arith, long);
+  end-is = q .end-is ∙ end-of (decLe (length xs) (length out - at));
+  ends = record {
+    onward = let a = p .ends .onward in let b = q .ends .onward in omega arith;
+    within = let a = p .ends .within in let b = q .ends .within in omega (arith, long);
+  };
 }
   where
     long : length half ≡ length out
@@ -85,8 +91,8 @@ puts-append xs ys at mid end out half left p q = record {
         let m = past (omega arith) in
         sets-out half mid ys m ∙ sym (sets-append out at xs ys ∙ rw (← first) (sets-out half (at + length xs) ys (omega (arith, long))))
 
-    ends : Dec (length xs ≤ length out - at) → mid + length (fitting half mid ys) ≡ at + length (fitting out at (xs ++ ys))
-    ends (yes h) = both (decLe (length ys) (length half - mid))
+    end-of : Dec (length xs ≤ length out - at) → mid + length (fitting half mid ys) ≡ at + length (fitting out at (xs ++ ys))
+    end-of (yes h) = both (decLe (length ys) (length half - mid))
       where
         at-mid : mid ≡ at + length xs
         at-mid = p .end-is ∙ end-fits out xs at h
@@ -94,4 +100,4 @@ puts-append xs ys at mid end out half left p q = record {
         both : Dec (length ys ≤ length half - mid) → mid + length (fitting half mid ys) ≡ at + length (fitting out at (xs ++ ys))
         both (yes i) = omega (arith, long, at-mid, length-append xs ys, end-fits half ys mid i, end-fits out (xs ++ ys) at (omega (arith, long, at-mid, length-append xs ys)))
         both (no i) = omega (arith, long, at-mid, length-append xs ys, end-cut half ys mid (omega arith), end-cut out (xs ++ ys) at (omega (arith, long, at-mid, length-append xs ys)))
-    ends (no h) = omega (arith, long, p .end-is, end-cut out xs at (omega arith), end-cut half ys mid (omega (arith, past (omega arith))), end-cut out (xs ++ ys) at (omega (arith, length-append xs ys)))
+    end-of (no h) = omega (arith, long, p .end-is, end-cut out xs at (omega arith), end-cut half ys mid (omega (arith, past (omega arith))), end-cut out (xs ++ ys) at (omega (arith, length-append xs ys)))

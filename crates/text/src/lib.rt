@@ -1,6 +1,7 @@
 // Text put together in a lent slice, from templates with marks for numbers and a word. What does not fit is cut off at the
 // slice's end, so no function asks for room.
 ghost use mathlib.Core.Path.{_≡_};
+ghost use mathlib.Core.List.{[]};
 ghost use lib.ListN.{getD};
 ghost use Rattle.text.specs.Text.{filled};
 ghost use Rattle.text.specs.Puts.{Puts};
@@ -44,4 +45,18 @@ pub fn fill(out: &mut [u8], at: usize, template: &[u8], word: &[u8], numbers: &[
         i += 1;
     }
     end
+}
+
+// The same with numbers and no word.
+pub fn say(out: &mut [u8], at: usize, template: &[u8], numbers: &[u64]) -> usize
+    ensures { λ r. ⌜ Puts (filled (now (template .entry)) [] (now (numbers .entry))) at (now (out .entry)) (now (out .exit)) r ⌝ }
+{
+    fill(out, at, template, b"", numbers)
+}
+
+// The same with a word and no numbers.
+pub fn say_word(out: &mut [u8], at: usize, template: &[u8], word: &[u8]) -> usize
+    ensures { λ r. ⌜ Puts (filled (now (template .entry)) (now (word .entry)) []) at (now (out .entry)) (now (out .exit)) r ⌝ }
+{
+    fill(out, at, template, word, &[])
 }
