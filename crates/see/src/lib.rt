@@ -94,7 +94,7 @@ pub fn see_normal(record: &[u8], time: Time) -> Seen
 }
 
 // The refusal of a look at memory at a time.
-fn look_refusal(record: &[u8], array: usize, charges: usize, misplaced: bool, time: Time) -> u32
+pub fn look_refusal(record: &[u8], array: usize, charges: usize, misplaced: bool, time: Time) -> u32
     ensures { λ r. ⌜ r ≡ sizedRefusal misplaced time (now («record» .entry)) array charges ⌝ }
 {
     if sizes_misfit(record.len(), array, charges) {
