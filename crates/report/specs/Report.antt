@@ -1,10 +1,9 @@
 -- The lines of a report: calls, pulses and pages of each block, each legible page, and the verdict. Each is a template as it is printed.
 -- Assumes nothing.
 use Prim.Native.Nat.{ℕ}
-use mathlib.Core.Bool.{cond}
 use mathlib.Core.List.{List, [], _∷_}
 use lib.Dec.{eqb}
-use Rattle.text.specs.Text.{said}
+use Rattle.text.specs.Text.{said, either}
 
 -- how many calls were made, and how many of them were refused
 abbrev pub callLines : ℕ → ℕ → List ℕ
@@ -25,7 +24,7 @@ legibleLine address = said "legible: page $\n" (address ∷ [])
 
 -- blank if no page is legible
 abbrev pub verdictLine : ℕ → List ℕ
-verdictLine legible = cond (eqb legible 0) (said "verdict: blank\n" []) (said "verdict: legible, % pages\n" (legible ∷ []))
+verdictLine legible = either (eqb legible 0) "verdict: blank\n" "verdict: legible, % pages\n" (legible ∷ [])
 
 -- the head of a picture with a dot for each of the 393,216 cells, in 256 shades of grey
 abbrev pub pictureHead : List ℕ

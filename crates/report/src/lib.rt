@@ -2,6 +2,7 @@
 ghost use Rattle.report.specs.Report.{callLines, pulseLine, pageLine, legibleLine, verdictLine, pictureHead};
 ghost use Rattle.text.specs.Puts.{Puts};
 use text::say;
+use text::say_either;
 
 pub fn calls(out: &mut [u8], at: usize, made: u64, refused: u64) -> usize
     ensures { λ r. ⌜ Puts (callLines made refused) at (now (out .entry)) (now (out .exit)) r ⌝ }
@@ -53,10 +54,14 @@ pub fn legible_page(out: &mut [u8], at: usize, address: u64) -> usize
 pub fn verdict(out: &mut [u8], at: usize, legible: u64) -> usize
     ensures { λ r. ⌜ Puts (verdictLine legible) at (now (out .entry)) (now (out .exit)) r ⌝ }
 {
-    if legible == 0 {
-        return say(out, at, b"verdict: blank\n", &[]);
-    }
-    say(out, at, b"verdict: legible, % pages\n", &[legible])
+    say_either(
+        out,
+        at,
+        legible == 0,
+        b"verdict: blank\n",
+        b"verdict: legible, % pages\n",
+        &[legible],
+    )
 }
 
 pub fn picture_head(out: &mut [u8], at: usize) -> usize

@@ -64,3 +64,7 @@ filled (b ∷ template) word numbers =
 -- the same of a template that is written as a text, with no word
 abbrev pub said : String → List ℕ → List ℕ
 said template numbers = filled (bytes template) [] numbers
+
+-- the same of one of two templates, by a test
+abbrev pub either : Bool → String → String → List ℕ → List ℕ
+either first one other numbers = filled (cond first (bytes one) (bytes other)) [] numbers

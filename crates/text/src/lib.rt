@@ -1,6 +1,7 @@
 // Text put together in a lent slice, from templates with marks for numbers and a word. What does not fit is cut off at the
 // slice's end, so no function asks for room.
 ghost use mathlib.Core.Path.{_≡_};
+ghost use mathlib.Core.Bool.{cond};
 ghost use mathlib.Core.List.{[]};
 ghost use lib.ListN.{getD};
 ghost use Rattle.text.specs.Text.{filled};
@@ -59,4 +60,21 @@ pub fn say_word(out: &mut [u8], at: usize, template: &[u8], word: &[u8]) -> usiz
     ensures { λ r. ⌜ Puts (filled (now (template .entry)) (now (word .entry)) []) at (now (out .entry)) (now (out .exit)) r ⌝ }
 {
     fill(out, at, template, word, &[])
+}
+
+// The same with one of two templates.
+pub fn say_either(
+    out: &mut [u8],
+    at: usize,
+    first: bool,
+    one: &[u8],
+    other: &[u8],
+    numbers: &[u64],
+) -> usize
+    ensures { λ r. ⌜ Puts (filled (cond first (now (one .entry)) (now (other .entry))) [] (now (numbers .entry))) at (now (out .entry)) (now (out .exit)) r ⌝ }
+{
+    if first {
+        return say(out, at, one, numbers);
+    }
+    say(out, at, other, numbers)
 }
