@@ -1,1 +1,5 @@
+pub mod Going
+pub mod Holding
+pub mod Lights
 pub mod Numbers
+pub mod Steps
