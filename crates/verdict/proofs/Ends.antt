@@ -3,7 +3,7 @@
 use mathlib.Core.Path.{_≡_, refl, sym, ap, _∙_}
 use mathlib.Core.Bool.{cond}
 use mathlib.Core.List.{List, [], _∷_, _++_}
-use Prim.Native.Nat.{ℕ, suc, _+_, _/_, _<_, _≤_, min}
+use Prim.Native.Nat.{ℕ, suc, _+_, _/_, _^_, _<_, _≤_, min}
 use native.Mathlib.Nat.{zero-add}
 use native.Mathlib.Omega.{arith}
 use borrow.Author.Tests.{eq-eqb, ne-eqb}
@@ -24,6 +24,12 @@ count-append kind b (w ∷ xs) ys = rw (count-append kind b xs ys) (omega arith)
 pub length-counted : (kind : ℕ) (words counts : List ℕ) → length (counted kind words counts) ≡ length counts
 unfolding counted
 length-counted kind words counts = length-mapi _ 0 counts
+
+-- a count that stays below 2^64 is the one before and the number of words that count for its block
+pub counted-at : (kind : ℕ) (words counts : List ℕ) (b : ℕ) → b < length counts → at counts b + endCount kind b words < 2 ^ 64
+    → at (counted kind words counts) b ≡ at counts b + endCount kind b words
+unfolding counted
+counted-at kind words counts b h small = getD-mapi _ counts b h ∙ omega arith
 
 -- some words and then more
 pub counted-more : (kind : ℕ) (xs ys counts : List ℕ) → counted kind ys (counted kind xs counts) ≡ counted kind (xs ++ ys) counts

@@ -1,12 +1,12 @@
 -- Blocks and pages by their places: one block after the other is tried, each lies in the array, and a page of the array lies in the block
--- that is told. A stretch of addresses touches a page exactly where one of them lies in it. Assumes nothing.
+-- that is told and in no other. A stretch of addresses touches a page exactly where one of them lies in it. Assumes nothing.
 use mathlib.Core.Path.{_≡_, refl, sym}
 use mathlib.Core.Bool.{Bool, true, false, cond, _&&_, true≢false}
 use mathlib.Core.List.{List, [], _∷_}
 use Prim.Native.Nat.{ℕ, zero, suc, _+_, _-_, _*_, _/_, _^_, _<_, _≤_}
 use native.Mathlib.Omega.{arith}
-use native.Mathlib.Decide.{decLt}
-use borrow.Author.Tests.{ltb-true, ltb-false, leb-true, lt-ltb, le-leb}
+use native.Mathlib.Decide.{ℕ-discrete, decLt}
+use borrow.Author.Tests.{ltb-true, ltb-false, leb-true, lt-ltb, le-ltb, le-leb}
 use lib.Dec.{leb, ltb}
 use Rattle.control.specs.declared.Range.{Range}
 use Rattle.control.specs.Blocks.{eraseRange, inOrder}
@@ -17,6 +17,9 @@ use Rattle.verdict.specs.Blocks.{blockRange, inRange, blockFrom, blockOf
 
 pub in-range : (r : Range) (p : ℕ) → r .first ≤ p → p < r .first + r .pages → inRange r p ≡ true
 in-range r p low high = rw (le-leb _ p low, lt-ltb p _ high)
+
+past-range : (r : Range) (p : ℕ) → r .first + r .pages ≤ p → inRange r p ≡ false
+past-range r p h = rw (le-leb (r .first) p (omega arith), le-ltb p _ h)
 
 -- where p lies in a range
 from-range : (r : Range) (p : ℕ) → inRange r p ≡ true → (r .first ≤ p) × (p < r .first + r .pages)
@@ -70,10 +73,39 @@ block-found (suc n) b q p (first, rest) low high =
         let r = later (omega arith) in
         (omega arith, r .1)
 
--- A page of the array lies in its block.
+-- A page of the array lies in the block that is told.
 pub page-in-block : (p : ℕ) → p < 384 → (blockOf p < 6) × (inRange (blockRange (blockOf p)) p ≡ true)
 unfolding blockOf values
 page-in-block p h = block-found 6 0 0 p blocks-in-order (omega arith) h
+
+-- Such blocks start at q or later.
+starts-later : (n b q c : ℕ) → inOrder q (values n b) → b ≤ c → c < b + n → q ≤ blockRange c .first
+unfolding inOrder values
+starts-later zero b q c e low high = absurd (omega arith)
+starts-later (suc n) b q c (first, rest) low high = by (λ l. starts-later n (suc b) (q + blockRange b .pages) c rest l (omega arith)) (ℕ-discrete c b)
+  where
+    by : (suc b ≤ c → q + blockRange b .pages ≤ blockRange c .first) → Dec (c ≡ b) → q ≤ blockRange c .first
+    by later (yes e) = rw e (omega (arith, first))
+    by later (no d) = omega (arith, later (omega arith))
+
+-- A page of one of them lies in no block before it, so that one is told.
+block-only : (n b q p c : ℕ) → inOrder q (values n b) → b ≤ c → c < b + n → inRange (blockRange c) p ≡ true → blockFrom n b p ≡ c
+unfolding inOrder values blockFrom
+block-only zero b q p c o low high e = absurd (omega arith)
+block-only (suc n) b q p c (first, rest) low high e =
+    by (λ l. block-only n (suc b) (q + blockRange b .pages) p c rest l (omega arith) e) (ℕ-discrete c b)
+  where
+    by : (suc b ≤ c → blockFrom n (suc b) p ≡ c) → Dec (c ≡ b) → cond (inRange (blockRange b) p) b (blockFrom n (suc b) p) ≡ c
+    by later (yes d) = rw (rw d at e) (sym d)
+    by later (no d) =
+        let s = starts-later n (suc b) (q + blockRange b .pages) c rest (omega arith) (omega arith) in
+        let r = from-range (blockRange c) p e in
+        rw (past-range (blockRange b) p (omega arith)) (later (omega arith))
+
+-- A page lies in no block but the one that is told.
+pub block-of-page : (b p : ℕ) → b < 6 → inRange (blockRange b) p ≡ true → blockOf p ≡ b
+unfolding blockOf values
+block-of-page b p h e = block-only 6 0 0 p b blocks-in-order (omega arith) (omega arith) e
 
 -- ---- the pages of a stretch of addresses
 
@@ -82,6 +114,11 @@ module _ (from to : ℕ) where
   pub touched : (a : ℕ) → from ≤ a → a ≤ to → inRange (pagesTouched from to) (a / 128) ≡ true
   unfolding pagesTouched
   touched a low high = in-range _ (a / 128) (omega arith) (omega arith)
+
+  -- the pages told lie in the array if the stretch does
+  pub touched-inside : from ≤ to → to < 49152 → pagesTouched from to .first + pagesTouched from to .pages ≤ 384
+  unfolding pagesTouched
+  touched-inside h inside = omega arith
 
   -- and a page that is told has one
   pub touched-only : (p : ℕ) → from ≤ to → inRange (pagesTouched from to) p ≡ true → (a : ℕ) × (from ≤ a) × (a ≤ to) × (a / 128 ≡ p)

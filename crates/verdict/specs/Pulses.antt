@@ -5,15 +5,11 @@ use mathlib.Core.Bool.{Bool, cond, _&&_}
 use mathlib.Core.List.{List, [], _∷_}
 use lib.Dec.{eqb}
 use Rattle.cell.specs.Cell.{pageBytes, mapi}
+use Rattle.registers.specs.declared.Ending.the-variants.{Completed, Interrupted}
+use Rattle.registers.specs.Calls.{endingNumber}
 use Rattle.ledger.specs.Words.{kindIn, addressIn}
 use Rattle.verdict.specs.declared.Tally.{Tally}
 use Rattle.verdict.specs.Blocks.{blockOf}
-
-abbrev pub completedKind : ℕ
-completedKind = 2
-
-abbrev pub interruptedKind : ℕ
-interruptedKind = 3
 
 -- whether a word is of a kind and its address lies in block b
 unfoldable pub endsThere : ℕ → ℕ → ℕ → Bool
@@ -32,6 +28,10 @@ raised count n = count + min n (2 ^ 64 - 1 - count)
 unfoldable pub counted : ℕ → List ℕ → List ℕ → List ℕ
 counted kind words counts = mapi (λ b count. raised count (endCount kind b words)) 0 counts
 
+-- the tally after some words more: each kind of end event in its own counts
 unfoldable pub tallied : Tally → List ℕ → Tally
 tallied t words =
-    record { completed = counted completedKind words (t .completed); interrupted = counted interruptedKind words (t .interrupted) }
+    record {
+      completed = counted (endingNumber Completed) words (t .completed);
+      interrupted = counted (endingNumber Interrupted) words (t .interrupted);
+    }

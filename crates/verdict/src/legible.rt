@@ -3,9 +3,10 @@ ghost use mathlib.Core.Path.{_≡_};
 ghost use Prim.Native.Nat.{_+_, _*_, _<_, _≤_};
 ghost use lib.ListN.{length};
 ghost use Rattle.cell.specs.Cell.{pageBytes, arrayBytes};
-ghost use Rattle.verdict.specs.Blocks.{blocks, blockRange};
+ghost use Rattle.verdict.specs.Blocks.{blocks, blockRange, pagesTouched};
 ghost use Rattle.verdict.specs.Legible.{legible, legibleIn};
 use crate::blocks::block_range;
+use crate::blocks::pages_touched;
 use cell::PAGE;
 
 // Whether a page of an image is legible.
@@ -46,5 +47,14 @@ pub fn legible_in_block(image: &[u8], block: usize) -> usize
     ensures { λ r. ⌜ (r ≡ legibleIn (now (image .entry)) (blockRange block .first) (blockRange block .pages)) × (r ≤ blockRange block .pages) ⌝ }
 {
     let range = block_range(block);
+    legible_pages(image, range.first as usize, range.pages as usize)
+}
+
+// How many of the pages are legible in which the addresses from one to another lie, both included.
+pub fn legible_between(image: &[u8], from: u16, to: u16) -> usize
+    requires { ⌜ (length (now image) ≡ arrayBytes) × (from ≤ to) × (to < arrayBytes) ⌝ }
+    ensures { λ r. ⌜ (r ≡ legibleIn (now (image .entry)) (pagesTouched from to .first) (pagesTouched from to .pages)) × (r ≤ pagesTouched from to .pages) ⌝ }
+{
+    let range = pages_touched(from, to);
     legible_pages(image, range.first as usize, range.pages as usize)
 }

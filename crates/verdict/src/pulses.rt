@@ -4,7 +4,7 @@ ghost use Prim.Native.Nat.{_/_, min};
 ghost use lib.ListN.{length, take};
 ghost use mathlib.Core.List.{[], _∷_};
 ghost use Rattle.cell.specs.Cell.{pageBytes};
-ghost use Rattle.ledger.specs.Words.{kindIn, addressIn};
+ghost use Rattle.ledger.specs.Words.{addressIn};
 ghost use Rattle.verdict.specs.Blocks.{blocks, blockOf};
 ghost use Rattle.verdict.specs.Pulses.{raised, counted, tallied};
 use crate::Tally;
@@ -12,11 +12,12 @@ use crate::blocks::BLOCKS;
 use crate::blocks::block_of;
 use cell::PAGE;
 
-// What the parts of an event word begin at: its kind, and its address, which is as wide.
+// An event word is kind × 2^32 + address × 2^16 + the rest.
 const KIND: u64 = 4294967296;
 
 const ADDRESS: u64 = 65536;
 
+// The kinds of end event.
 const COMPLETED: u64 = 2;
 
 const INTERRUPTED: u64 = 3;
@@ -50,6 +51,7 @@ fn count_word(counts: &mut [u64], kind: u64, word: u64)
     }
 }
 
+// The smaller of two numbers.
 fn fewer(a: usize, b: usize) -> usize
     ensures { λ r. ⌜ r ≡ min a b ⌝ }
 {

@@ -17,12 +17,14 @@ returns c = (c .before .output-refusal .ensures, output-stays _ _ _ _ (c .if1 .t
 
 read-requires : tie.Need-read-requires
 unfolding outputRefusal
-read-requires c κs = let a = c .before .before .before .before .before .before .args in
+read-requires c κs =
+    let a = c .before .before .before .before .before .before .args in
     ready 384 (length (a .out .now)) (a .time) (record { bytes = a .«record» .now; array = a .array .now; charges = a .charges .now }) (c .before .output-refusal .ensures) (c .if1 .left) .record-long
 
 write-marks-requires : tie.Need-write-marks-requires
 unfolding outputRefusal
-write-marks-requires c κs = let a = c .before .before .before .before .before .before .before .before .args in
+write-marks-requires c κs =
+    let a = c .before .before .before .before .before .before .before .before .args in
     let k = ready 384 (length (a .out .now)) (a .time) (record { bytes = a .«record» .now; array = a .array .now; charges = a .charges .now }) (c .before .before .before .output-refusal .ensures) (c .before .before .if1 .left) in
     (rw (c .before .read .ensures) (k .fits), k .has-room)
 

@@ -14,7 +14,8 @@ exposed-by-requires : tie.Need-exposed-by-requires
 exposed-by-requires c κs = search needs
 
 returns : tie.Need-returns
-returns c = let p = c .before .before .before .before .before .pre in
+returns c =
+    let p = c .before .before .before .before .before .pre in
     let h = slots-from _ _ (p .0) (p .3) (p .1) in
     c .exposed-by .ensures ∙ rw (c .before .cell-at .ensures) (sym (look-cell _ _ _ _ h _ (p .4)))
 

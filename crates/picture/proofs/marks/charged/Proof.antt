@@ -20,7 +20,8 @@ holds-charge-requires c κs = search needs
 
 returns : tie.Need-returns
 unfolding chargedAt chargeAt
-returns c = let v = c .before .before .before .before .before in
+returns c =
+    let v = c .before .before .before .before .before in
     let x = v .before .before .before .before .before .before .args in
     c .holds-charge .ensures ∙ sym (ap (λ (k : Cells). holdsCharge (cellAt k) 1024 (x .page * 1024)) (c .before .before .before .before .before .view-at .ensures _ _))
 

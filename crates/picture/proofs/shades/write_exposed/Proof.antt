@@ -38,7 +38,8 @@ loop-less : tie.Need-loop-less Inv-loop μ-loop
 loop-less c = omega arith
 
 loop-again : tie.Need-loop-again Inv-loop μ-loop
-loop-again c = let l = c .before .before .before .loop in
+loop-again c =
+    let l = c .before .before .before .loop in
     (omega arith, written-turn _ (l .i) _ _ _ (l .inv .1) (c .shade .ensures ∙ ap shadeOf (c .before .cell-after .ensures)) (omega arith))
 
 same-length : tie.Need-same-length Inv-loop μ-loop

@@ -23,7 +23,8 @@ same-length c = search needs
 
 returns : tie.Need-returns
 unfolding shadeAt chargeAt
-returns c = let x = c .before .before .before .before .before .before .before .before .before .before .before .before .before .before .before .args in
+returns c =
+    let x = c .before .before .before .before .before .before .before .before .before .before .before .before .before .before .before .args in
     c .before .before .write-exposed .ensures ∙ sym (ap (λ (k : Cells). written (λ i. shadeOf (cellAt k i)) 393216 (x .out .now)) (c .before .before .before .before .before .before .before .before .view-at .ensures _ _))
 
 pub write-shades-spec : {M : Type 1} → statement M

@@ -26,7 +26,8 @@ in-range-requires : tie.Need-in-range-requires Inv-loop μ-loop
 in-range-requires c κs = search needs
 
 returns : tie.Need-returns Inv-loop μ-loop
-returns c = let t = rw (c .before .before .block-range .ensures) at (sym (c .before .in-range .ensures) ∙ c .if1 .taken) in
+returns c =
+    let t = rw (c .before .before .block-range .ensures) at (sym (c .before .in-range .ensures) ∙ c .if1 .taken) in
     sym (c .before .before .before .before .loop .inv .1 ∙ rw (block-turn (c .before .before .before .before .loop .block) _ (omega arith), t))
 
 add-block : tie.Need-add-block Inv-loop μ-loop
@@ -36,7 +37,8 @@ loop-less : tie.Need-loop-less Inv-loop μ-loop
 loop-less c = omega arith
 
 loop-again : tie.Need-loop-again Inv-loop μ-loop
-loop-again c = let t = rw (c .before .before .block-range .ensures) at (sym (c .before .in-range .ensures) ∙ c .if1 .left) in
+loop-again c =
+    let t = rw (c .before .before .block-range .ensures) at (sym (c .before .in-range .ensures) ∙ c .if1 .left) in
     (omega arith, c .before .before .before .before .loop .inv .1 ∙ rw (block-turn (c .before .before .before .before .loop .block) _ (omega arith), t))
 
 returns-2 : tie.Need-returns-2 Inv-loop μ-loop

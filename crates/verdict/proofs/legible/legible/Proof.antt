@@ -32,7 +32,8 @@ shared-slice-read-if1 : tie.Need-shared-slice-read-if1 Inv-loop μ-loop
 shared-slice-read-if1 c = omega arith
 
 returns : tie.Need-returns Inv-loop μ-loop
-returns c = let l = c .before .before .before .loop in
+returns c =
+    let l = c .before .before .before .loop in
     sym (l .inv .1 ∙ rw (blank-turn _ (l .i) _ (omega arith), ne-eqb _ 255 (c .if1 .taken)))
 
 add-i : tie.Need-add-i Inv-loop μ-loop
@@ -42,12 +43,14 @@ loop-less : tie.Need-loop-less Inv-loop μ-loop
 loop-less c = omega arith
 
 loop-again : tie.Need-loop-again Inv-loop μ-loop
-loop-again c = let l = c .before .before .before .loop in
+loop-again c =
+    let l = c .before .before .before .loop in
     (omega arith, l .inv .1 ∙ rw (blank-turn _ (l .i) _ (omega arith), eq-eqb _ 255 (c .if1 .left)))
 
 returns-2 : tie.Need-returns-2 Inv-loop μ-loop
 unfolding allBlank
-returns-2 c = let l = c .before .loop in
+returns-2 c =
+    let l = c .before .loop in
     let e : 128 - l .i ≡ 0 = omega arith in
     sym (l .inv .1 ∙ rw e)
 

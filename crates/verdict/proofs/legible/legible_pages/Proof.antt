@@ -35,7 +35,8 @@ loop-less : tie.Need-loop-less Inv-loop μ-loop
 loop-less c = omega arith
 
 loop-again : tie.Need-loop-again Inv-loop μ-loop
-loop-again c = let l = c .before .before .before .loop in
+loop-again c =
+    let l = c .before .before .before .loop in
     let a = c .before .before .before .before .before .args in
     let t = legible-turn (a .image .now) (a .first) (l .i) in
     let e = c .before .legible .ensures in
@@ -45,7 +46,8 @@ loop-again c = let l = c .before .before .before .loop in
     (c .if1 .came)
 
 returns : tie.Need-returns Inv-loop μ-loop
-returns c = let e : c .before .loop .i ≡ c .before .before .before .args .pages = omega arith in
+returns c =
+    let e : c .before .loop .i ≡ c .before .before .before .args .pages = omega arith in
     (rw e at (c .before .loop .inv .1), omega arith)
 
 pub legible-pages-spec : {M : Type 1} → statement M

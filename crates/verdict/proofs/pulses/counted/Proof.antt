@@ -43,11 +43,13 @@ loop-less : tie.Need-loop-less Inv-loop μ-loop
 loop-less c = omega arith
 
 loop-again : tie.Need-loop-again Inv-loop μ-loop
-loop-again c = let l = c .before .before .before .before .before .loop in
+loop-again c =
+    let l = c .before .before .before .before .before .loop in
     (omega arith, ap length (c .before .count-word .ensures) ∙ simp length-counted (l .inv .1), c .before .count-word .ensures ∙ rw (l .inv .2, counted-more, add-one (l .i), take-suc (c .before .before .before .before .before .before .before .before .args .events .now) (l .i) 0 (omega arith)))
 
 returns : tie.Need-returns Inv-loop μ-loop
-returns c = let l = c .before .loop in
+returns c =
+    let l = c .before .loop in
     let e : l .i ≡ c .before .before .fewer .result = omega arith in
     l .inv .2 ∙ rw (e, c .before .before .fewer .ensures, take-fewer)
 
