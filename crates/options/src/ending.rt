@@ -21,6 +21,8 @@ use crate::places::PICTURE;
 use crate::places::RESTORE;
 use crate::places::SNAPSHOT;
 use crate::places::TO;
+use crate::places::is_given;
+use crate::places::said_of;
 use crate::values::address_in;
 use crate::values::block_in;
 use crate::values::time_in;
@@ -84,7 +86,7 @@ fn word_of(said: [Said; 13], p: usize) -> Word
     requires { ⌜ p < places ⌝ }
     ensures { λ r. ⌜ r ≡ saidOf said p .word ⌝ }
 {
-    let found = said[p];
+    let found = said_of(said, p);
     let word = found.word;
     word
 }
@@ -108,9 +110,9 @@ fn accepted(args: &[u8], said: [Said; 13], range: Range) -> Options
         restore: word_of(said, RESTORE),
         picture: word_of(said, PICTURE),
         snapshot: word_of(said, SNAPSHOT),
-        events: said[EVENTS].given,
-        map: said[MAP].given,
-        go_on: said[GO_ON].given,
+        events: is_given(said, EVENTS),
+        map: is_given(said, MAP),
+        go_on: is_given(said, GO_ON),
         help: false,
         at: time_asked(args, word_of(said, AT)),
         first: range.first as usize,
@@ -146,16 +148,16 @@ fn whole(args: &[u8], said: [Said; 13]) -> Options
     requires { ⌜ SaidLies (now args) said ⌝ }
     ensures { λ r. ⌜ r ≡ whole (now (args .entry)) said ⌝ }
 {
-    let history = said[HISTORY];
-    if !history.given {
+    if !is_given(said, HISTORY) {
         return refused(Trouble::NoHistory);
     }
-    let image = said[IMAGE];
-    let restore = said[RESTORE];
-    if image.given & restore.given {
+    if is_given(said, IMAGE) & is_given(said, RESTORE) {
         return refused(Trouble::ImageAndRestore);
     }
-    ranged(args, said, said[BLOCK], said[FROM], said[TO])
+    let block = said_of(said, BLOCK);
+    let from = said_of(said, FROM);
+    let to = said_of(said, TO);
+    ranged(args, said, block, from, to)
 }
 
 // What is said at the end of the words, by the stage that the last of them leads to.

@@ -11,6 +11,7 @@ use crate::Trouble;
 use crate::places::GO_ON;
 use crate::places::HELP;
 use crate::places::HISTORY;
+use crate::places::is_given;
 use crate::values::complaint;
 use crate::values::fits;
 use words::Word;
@@ -63,8 +64,7 @@ fn plain(args: &[u8], said: [Said; 13], word: Word) -> Given
             stage: Stage::Wrong(Trouble::NoSuchOption, word),
         };
     }
-    let history = said[HISTORY];
-    if history.given {
+    if is_given(said, HISTORY) {
         return Given {
             said,
             stage: Stage::Wrong(Trouble::TwoHistories, word),
@@ -77,8 +77,7 @@ fn option(said: [Said; 13], p: usize, word: Word) -> Given
     requires { ⌜ p < places ⌝ }
     ensures { λ r. ⌜ r ≡ option said p word ⌝ }
 {
-    let earlier = said[p];
-    if earlier.given {
+    if is_given(said, p) {
         return Given {
             said,
             stage: Stage::Wrong(Trouble::Twice, word),
