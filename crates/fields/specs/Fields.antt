@@ -4,6 +4,7 @@ use Prim.Native.Nat.{ℕ}
 use mathlib.Core.Bool.{Bool, cond}
 use mathlib.Core.List.{List}
 use lib.Dec.{eqb, ltb}
+use lib.ListN.{length}
 use Rattle.bytes.specs.Bytes.{slice}
 use Rattle.reason.specs.declared.Reason.{Reason}
 use Rattle.reason.specs.declared.Reason.the-variants.{NoRegister, NoAddress, NoByte, NoValue, BitTwice, NoMode, NoModule, NoOscillator, NoBitNumber}
@@ -97,10 +98,10 @@ abbrev pub choiceOf : ℕ → Reason → Word → ℕ → Narrow
 choiceOf count why w place = cond (ltb place count) (narrow.Is place) (narrow.Wrong (faultAt why w))
 
 unfoldable pub modeIn : List ℕ → Word → Narrow
-modeIn line w = choiceOf 6 NoMode w (placeOf modes (bytesOf line w))
+modeIn line w = choiceOf (length modes) NoMode w (placeOf modes (bytesOf line w))
 
 unfoldable pub moduleIn : List ℕ → Word → Narrow
-moduleIn line w = choiceOf 2 NoModule w (placeOf modules (bytesOf line w))
+moduleIn line w = choiceOf (length modules) NoModule w (placeOf modules (bytesOf line w))
 
 unfoldable pub oscillatorIn : List ℕ → Word → Narrow
-oscillatorIn line w = choiceOf 2 NoOscillator w (placeOf oscillators (bytesOf line w))
+oscillatorIn line w = choiceOf (length oscillators) NoOscillator w (placeOf oscillators (bytesOf line w))

@@ -9,13 +9,13 @@ use Rattle.names.specs.Values.{bitsFrom, bitsNamed}
 use Rattle.digits.specs.Digits.{digitOf, numberFrom, numberIn, hexIn}
 use Rattle.moments.specs.Moments.{lengthOf, momentOf}
 use Rattle.fields.specs.Fields.{registerIn, valueIn, addressIn, byteIn, bitIn, modeIn, moduleIn, oscillatorIn}
-use Rattle.grammar.specs.Grammar.{writeLine, dataLine, readLine, wordLine, bareLine, suppliesLine, environmentLine, cellLine, lookLine, lineFor, callLine, lineOf}
+use Rattle.grammar.specs.Grammar.{ended, valueLine, writeLine, byteLine, dataLine, readLine, wordLine, oscillatorLine, moduleLine, environmentLine, cellLine, lookLine, lineFor, callLine, lineOf}
 use Rattle.grammar.specs.Worked.{Worked}
 
 pub worked : Worked
 unfolding raw span instant duration micros plus added slice indexOf indexAfter spells splitBefore split placeOf leading wordAt callNamed registerNamed bitNamed bitsFrom bitsNamed
     digitOf numberFrom numberIn hexIn lengthOf momentOf registerIn valueIn addressIn byteIn bitIn modeIn moduleIn oscillatorIn
-    writeLine dataLine readLine wordLine bareLine suppliesLine environmentLine cellLine lookLine lineFor callLine lineOf
+    ended valueLine writeLine byteLine dataLine readLine wordLine oscillatorLine moduleLine environmentLine cellLine lookLine lineFor callLine lineOf
 worked =
     record {
       bits = refl;
@@ -24,6 +24,7 @@ worked =
       twice = refl;
       other-register = refl;
       relative = refl;
+      first = refl;
       exact = refl;
       whole = refl;
       byte = refl;
@@ -35,5 +36,6 @@ worked =
       no-call = refl;
       unknown = refl;
       more = refl;
+      returned = refl;
       nothing = (refl, refl);
     }

@@ -41,60 +41,51 @@ abbrev pub onNarrow : Narrow → (ℕ → Line) → Line
 onNarrow (narrow.Is n) rest = rest n
 onNarrow (narrow.Wrong f) rest = Wrong f
 
--- no word is left over
-abbrev pub ended : Word → Line → Line
-ended w whole = cond (missing w) whole (Wrong (faultAt MoreWords w))
+-- after the word w there is no word left over
+unfoldable pub ended : Line → List ℕ → Word → Line
+ended whole line w = cond (missing (next line w)) whole (Wrong (faultAt MoreWords (next line w)))
 
--- ---- the words of each call, after the word w
+-- ---- the words of each call, one a definition, after the word w
+
+unfoldable pub valueLine : Time → ℕ → List ℕ → Word → Line
+valueLine t r line w = onNarrow (valueIn r line (next line w)) (λ v. ended (Call t (request.WriteRegister r v)) line (next line w))
 
 unfoldable pub writeLine : Time → List ℕ → Word → Line
-writeLine t line w =
-    let w₁ = next line w in
-    let w₂ = next line w₁ in
-    onWide (registerIn line w₁) (λ r. onNarrow (valueIn r line w₂) (λ v. ended (next line w₂) (Call t (request.WriteRegister r v))))
+writeLine t line w = onWide (registerIn line (next line w)) (λ r. valueLine t r line (next line w))
+
+unfoldable pub byteLine : Time → ℕ → List ℕ → Word → Line
+byteLine t a line w = onNarrow (byteIn line (next line w)) (λ v. ended (Call t (request.Write8 a v)) line (next line w))
 
 unfoldable pub dataLine : Time → List ℕ → Word → Line
-dataLine t line w =
-    let w₁ = next line w in
-    let w₂ = next line w₁ in
-    onWide (addressIn arrayBytes PastTheEnd line w₁) (λ a. onNarrow (byteIn line w₂) (λ v. ended (next line w₂) (Call t (request.Write8 a v))))
+dataLine t line w = onWide (addressIn arrayBytes PastTheEnd line (next line w)) (λ a. byteLine t a line (next line w))
 
 unfoldable pub readLine : Time → List ℕ → Word → Line
 readLine t line w =
-    let w₁ = next line w in
-    onWide (addressIn arrayBytes PastTheEnd line w₁) (λ a. ended (next line w₁) (Call t (request.Read8 a)))
+    onWide (addressIn arrayBytes PastTheEnd line (next line w)) (λ a. ended (Call t (request.Read8 a)) line (next line w))
 
 -- a word's second byte lies inside too
 unfoldable pub wordLine : Time → List ℕ → Word → Line
 wordLine t line w =
-    let w₁ = next line w in
-    onWide (addressIn (arrayBytes - 1) WordPastTheEnd line w₁) (λ a. ended (next line w₁) (Call t (request.Read16 a)))
+    onWide (addressIn (arrayBytes - 1) WordPastTheEnd line (next line w)) (λ a. ended (Call t (request.Read16 a)) line (next line w))
 
--- a call with no words
-unfoldable pub bareLine : Time → Request → List ℕ → Word → Line
-bareLine t q line w = ended (next line w) (Call t q)
+unfoldable pub oscillatorLine : Time → ℕ → Bool → List ℕ → Word → Line
+oscillatorLine t mode modul line w =
+    onNarrow (oscillatorIn line (next line w)) (λ o. ended (Call t (request.Environment mode modul (eqb o 1))) line (next line w))
 
--- the module's and the oscillator's word, after a mode
-unfoldable pub suppliesLine : Time → ℕ → List ℕ → Word → Line
-suppliesLine t mode line w =
-    let w₁ = next line w in
-    let w₂ = next line w₁ in
-    onNarrow (moduleIn line w₁)
-    (λ p. onNarrow (oscillatorIn line w₂) (λ o. ended (next line w₂) (Call t (request.Environment mode (eqb p 1) (eqb o 1)))))
+unfoldable pub moduleLine : Time → ℕ → List ℕ → Word → Line
+moduleLine t mode line w = onNarrow (moduleIn line (next line w)) (λ p. oscillatorLine t mode (eqb p 1) line (next line w))
 
 unfoldable pub environmentLine : Time → List ℕ → Word → Line
-environmentLine t line w = onNarrow (modeIn line (next line w)) (λ m. suppliesLine t m line (next line w))
+environmentLine t line w = onNarrow (modeIn line (next line w)) (λ m. moduleLine t m line (next line w))
 
 -- the whole flash, a byte of it, or one of the byte's cells
 unfoldable pub cellLine : Time → ℕ → List ℕ → Word → Line
 cellLine t a line w =
-    let w₁ = next line w in
-    cond (missing w₁) (Look t (Byte a)) (onNarrow (bitIn line w₁) (λ b. ended (next line w₁) (Look t (Cell a b))))
+    cond (missing (next line w)) (Look t (Byte a)) (onNarrow (bitIn line (next line w)) (λ b. ended (Look t (Cell a b)) line (next line w)))
 
 unfoldable pub lookLine : Time → List ℕ → Word → Line
 lookLine t line w =
-    let w₁ = next line w in
-    cond (missing w₁) (Look t Whole) (onWide (addressIn arrayBytes PastTheEnd line w₁) (λ a. cellLine t a line w₁))
+    cond (missing (next line w)) (Look t Whole) (onWide (addressIn arrayBytes PastTheEnd line (next line w)) (λ a. cellLine t a line (next line w)))
 
 -- ---- the line
 
@@ -104,9 +95,9 @@ lineFor kind.Write t line w = writeLine t line w
 lineFor kind.Data t line w = dataLine t line w
 lineFor kind.Read t line w = readLine t line w
 lineFor kind.Word t line w = wordLine t line w
-lineFor kind.Protect t line w = bareLine t request.Protect line w
-lineFor kind.Reset t line w = bareLine t request.Reset line w
-lineFor kind.PowerOff t line w = bareLine t request.PowerOff line w
+lineFor kind.Protect t line w = ended (Call t request.Protect) line w
+lineFor kind.Reset t line w = ended (Call t request.Reset) line w
+lineFor kind.PowerOff t line w = ended (Call t request.PowerOff) line w
 lineFor kind.Environment t line w = environmentLine t line w
 lineFor kind.Look t line w = lookLine t line w
 lineFor kind.Unknown t line w = Wrong (faultAt UnknownCall w)
@@ -114,8 +105,8 @@ lineFor kind.Unknown t line w = Wrong (faultAt UnknownCall w)
 -- what follows the time, which the word w is
 unfoldable pub callLine : Time → List ℕ → Word → Line
 callLine t line w =
-    let w₁ = next line w in
-    cond (missing w₁) (Wrong (faultAt NoCall w₁)) (lineFor (callNamed (bytesOf line w₁)) t line w₁)
+    cond (missing (next line w)) (Wrong (faultAt NoCall (next line w)))
+    (lineFor (callNamed (bytesOf line (next line w))) t line (next line w))
 
 abbrev pub timedLine : List ℕ → Word → Moment → Line
 timedLine line w (moment.At t) = callLine t line w
@@ -124,5 +115,4 @@ timedLine line w (moment.Wrong why) = Wrong (faultAt why w)
 -- a line with no word is nothing
 unfoldable pub lineOf : Before → List ℕ → Line
 lineOf before line =
-    let w = wordAt line 0 in
-    cond (missing w) Nothing (timedLine line w (momentOf before (bytesOf line w)))
+    cond (missing (wordAt line 0)) Nothing (timedLine line (wordAt line 0) (momentOf before (bytesOf line (wordAt line 0))))

@@ -3,11 +3,12 @@
 use Prim.Native.Nat.{ℕ, _+_, _^_}
 use Prim.Native.String.{String}
 use mathlib.Core.Bool.{true, false}
+use mathlib.Core.List.{[], _∷_, _++_}
 use mathlib.Core.Path.{_≡_}
 use Rattle.time.specs.declared.Time.{Time}
 use Rattle.reason.specs.declared.Reason.{Reason}
 use Rattle.reason.specs.declared.Reason.the-variants as reason
-use Rattle.lent.specs.declared.Request.the-variants.{WriteRegister, Write8, Environment}
+use Rattle.lent.specs.declared.Request.the-variants.{WriteRegister, Write8, Reset, Environment}
 use Rattle.moments.specs.declared.Before.the-variants as earlier
 use Rattle.words.specs.Text.{text}
 use Rattle.fields.specs.declared.Fault.{Fault}
@@ -37,6 +38,7 @@ pub record Worked : Type 0 where
   pub other-register : is "1 write FENR SWE" ≡ wrong reason.NoValue 13 16
   -- a length after the line before, which is cut down to raw units, and a comment
   pub relative : is "+0.000050 data 0080 fe # note" ≡ Call (moment 0 (2 ^ 63 + 922337203685477)) (Write8 0x80 0xFE)
+  pub first : lineOf earlier.Nothing (text "+1 reset") ≡ wrong reason.NoTimeBefore 0 2
   -- an exact time, and the words of an environment
   pub exact : is "3:12 environment sleep module no-oscillator" ≡ Call (moment 3 12) (Environment 2 true false)
   -- looks
@@ -52,4 +54,6 @@ pub record Worked : Type 0 where
   pub no-call : is "1" ≡ wrong reason.NoCall 1 1
   pub unknown : is "1 wirte" ≡ wrong reason.UnknownCall 2 7
   pub more : is "1 reset now" ≡ wrong reason.MoreWords 8 11
+  -- a line that ends with a carriage return
+  pub returned : lineOf earlier.Nothing (text "1 reset" ++ 13 ∷ []) ≡ Call (moment 1 0) Reset
   pub nothing : (is "" ≡ Nothing) × (is "  # a comment" ≡ Nothing)

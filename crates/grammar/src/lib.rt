@@ -3,8 +3,8 @@ ghost use mathlib.Core.Path.{_≡_};
 ghost use Prim.Native.Nat.{_≤_};
 ghost use lib.ListN.{length};
 ghost use Rattle.grammar.specs.Grammar.{lineFor, callLine, lineOf};
-use crate::lines::bare_line;
 use crate::lines::data_line;
+use crate::lines::ended;
 use crate::lines::environment_line;
 use crate::lines::look_line;
 use crate::lines::read_line;
@@ -22,7 +22,7 @@ use time::Time;
 use words::Word;
 use words::word_at;
 
-pub mod lines;
+mod lines;
 
 // What a line is.
 pub enum Line {
@@ -48,9 +48,9 @@ fn line_for(kind: Kind, time: Time, line: &[u8], w: Word) -> Line
         Kind::Data => data_line(time, line, w),
         Kind::Read => read_line(time, line, w),
         Kind::Word => word_line(time, line, w),
-        Kind::Protect => bare_line(time, Request::Protect, line, w),
-        Kind::Reset => bare_line(time, Request::Reset, line, w),
-        Kind::PowerOff => bare_line(time, Request::PowerOff, line, w),
+        Kind::Protect => ended(Line::Call(time, Request::Protect), line, w),
+        Kind::Reset => ended(Line::Call(time, Request::Reset), line, w),
+        Kind::PowerOff => ended(Line::Call(time, Request::PowerOff), line, w),
         Kind::Environment => environment_line(time, line, w),
         Kind::Look => look_line(time, line, w),
         Kind::Unknown => Line::Wrong(Fault {

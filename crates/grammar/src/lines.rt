@@ -2,9 +2,10 @@
 ghost use mathlib.Core.Path.{_≡_};
 ghost use Prim.Native.Nat.{_≤_};
 ghost use lib.ListN.{length};
-ghost use Rattle.grammar.specs.Grammar.{ended, writeLine, dataLine, readLine, wordLine, bareLine, suppliesLine, environmentLine, cellLine, lookLine};
+ghost use Rattle.grammar.specs.Grammar.{ended, valueLine, writeLine, byteLine, dataLine, readLine, wordLine, oscillatorLine, moduleLine, environmentLine, cellLine, lookLine};
 use crate::Line;
 use crate::Looking;
+use cell::FLASH_SIZE;
 use fields::Fault;
 use fields::Narrow;
 use fields::Wide;
@@ -22,14 +23,17 @@ use time::Time;
 use words::Word;
 use words::word_at;
 
-const SIZE: u16 = 0xC000;
+// How many bytes the flash has, as an address.
+const SIZE: u16 = FLASH_SIZE as u16;
 
-// A line whose words were taken, and the word after them.
-fn ended(w: Word, whole: Line) -> Line
-    ensures { λ r. ⌜ r ≡ ended w whole ⌝ }
+// A line that ends with the word w: no word is left over.
+pub fn ended(whole: Line, line: &[u8], w: Word) -> Line
+    requires { ⌜ w .to ≤ length (now line) ⌝ }
+    ensures { λ r. ⌜ r ≡ ended whole (now (line .entry)) w ⌝ }
 {
-    let from = w.from;
-    let to = w.to;
+    let over = word_at(line, w.to);
+    let from = over.from;
+    let to = over.to;
     if from == to {
         return whole;
     }
@@ -40,30 +44,44 @@ fn ended(w: Word, whole: Line) -> Line
     })
 }
 
-pub fn bare_line(time: Time, request: Request, line: &[u8], w: Word) -> Line
+fn value_line(time: Time, register: u16, line: &[u8], w: Word) -> Line
     requires { ⌜ w .to ≤ length (now line) ⌝ }
-    ensures { λ r. ⌜ r ≡ bareLine time request (now (line .entry)) w ⌝ }
+    ensures { λ r. ⌜ r ≡ valueLine time register (now (line .entry)) w ⌝ }
 {
-    ended(word_at(line, w.to), Line::Call(time, request))
+    let word = word_at(line, w.to);
+    match value_in(register, line, word) {
+        Narrow::Wrong(f) => Line::Wrong(f),
+        Narrow::Is(value) => ended(
+            Line::Call(time, Request::WriteRegister(register, value)),
+            line,
+            word,
+        ),
+    }
 }
 
 pub fn write_line(time: Time, line: &[u8], w: Word) -> Line
     requires { ⌜ w .to ≤ length (now line) ⌝ }
     ensures { λ r. ⌜ r ≡ writeLine time (now (line .entry)) w ⌝ }
 {
-    let first = word_at(line, w.to);
-    match register_in(line, first) {
+    let word = word_at(line, w.to);
+    match register_in(line, word) {
         Wide::Wrong(f) => Line::Wrong(f),
-        Wide::Is(register) => {
-            let second = word_at(line, first.to);
-            match value_in(register, line, second) {
-                Narrow::Wrong(f) => Line::Wrong(f),
-                Narrow::Is(value) => ended(
-                    word_at(line, second.to),
-                    Line::Call(time, Request::WriteRegister(register, value)),
-                ),
-            }
-        }
+        Wide::Is(register) => value_line(time, register, line, word),
+    }
+}
+
+fn byte_line(time: Time, address: u16, line: &[u8], w: Word) -> Line
+    requires { ⌜ w .to ≤ length (now line) ⌝ }
+    ensures { λ r. ⌜ r ≡ byteLine time address (now (line .entry)) w ⌝ }
+{
+    let word = word_at(line, w.to);
+    match byte_in(line, word) {
+        Narrow::Wrong(f) => Line::Wrong(f),
+        Narrow::Is(value) => ended(
+            Line::Call(time, Request::Write8(address, value)),
+            line,
+            word,
+        ),
     }
 }
 
@@ -71,19 +89,10 @@ pub fn data_line(time: Time, line: &[u8], w: Word) -> Line
     requires { ⌜ w .to ≤ length (now line) ⌝ }
     ensures { λ r. ⌜ r ≡ dataLine time (now (line .entry)) w ⌝ }
 {
-    let first = word_at(line, w.to);
-    match address_in(SIZE, Reason::PastTheEnd, line, first) {
+    let word = word_at(line, w.to);
+    match address_in(SIZE, Reason::PastTheEnd, line, word) {
         Wide::Wrong(f) => Line::Wrong(f),
-        Wide::Is(address) => {
-            let second = word_at(line, first.to);
-            match byte_in(line, second) {
-                Narrow::Wrong(f) => Line::Wrong(f),
-                Narrow::Is(value) => ended(
-                    word_at(line, second.to),
-                    Line::Call(time, Request::Write8(address, value)),
-                ),
-            }
-        }
+        Wide::Is(address) => byte_line(time, address, line, word),
     }
 }
 
@@ -91,13 +100,10 @@ pub fn read_line(time: Time, line: &[u8], w: Word) -> Line
     requires { ⌜ w .to ≤ length (now line) ⌝ }
     ensures { λ r. ⌜ r ≡ readLine time (now (line .entry)) w ⌝ }
 {
-    let first = word_at(line, w.to);
-    match address_in(SIZE, Reason::PastTheEnd, line, first) {
+    let word = word_at(line, w.to);
+    match address_in(SIZE, Reason::PastTheEnd, line, word) {
         Wide::Wrong(f) => Line::Wrong(f),
-        Wide::Is(address) => ended(
-            word_at(line, first.to),
-            Line::Call(time, Request::Read8(address)),
-        ),
+        Wide::Is(address) => ended(Line::Call(time, Request::Read8(address)), line, word),
     }
 }
 
@@ -105,36 +111,36 @@ pub fn word_line(time: Time, line: &[u8], w: Word) -> Line
     requires { ⌜ w .to ≤ length (now line) ⌝ }
     ensures { λ r. ⌜ r ≡ wordLine time (now (line .entry)) w ⌝ }
 {
-    let first = word_at(line, w.to);
-    match address_in(SIZE - 1, Reason::WordPastTheEnd, line, first) {
+    let word = word_at(line, w.to);
+    match address_in(SIZE - 1, Reason::WordPastTheEnd, line, word) {
         Wide::Wrong(f) => Line::Wrong(f),
-        Wide::Is(address) => ended(
-            word_at(line, first.to),
-            Line::Call(time, Request::Read16(address)),
+        Wide::Is(address) => ended(Line::Call(time, Request::Read16(address)), line, word),
+    }
+}
+
+fn oscillator_line(time: Time, mode: u8, module: bool, line: &[u8], w: Word) -> Line
+    requires { ⌜ w .to ≤ length (now line) ⌝ }
+    ensures { λ r. ⌜ r ≡ oscillatorLine time mode «module» (now (line .entry)) w ⌝ }
+{
+    let word = word_at(line, w.to);
+    match oscillator_in(line, word) {
+        Narrow::Wrong(f) => Line::Wrong(f),
+        Narrow::Is(oscillator) => ended(
+            Line::Call(time, Request::Environment(mode, module, oscillator == 1)),
+            line,
+            word,
         ),
     }
 }
 
-fn supplies_line(time: Time, mode: u8, line: &[u8], w: Word) -> Line
+fn module_line(time: Time, mode: u8, line: &[u8], w: Word) -> Line
     requires { ⌜ w .to ≤ length (now line) ⌝ }
-    ensures { λ r. ⌜ r ≡ suppliesLine time mode (now (line .entry)) w ⌝ }
+    ensures { λ r. ⌜ r ≡ moduleLine time mode (now (line .entry)) w ⌝ }
 {
-    let first = word_at(line, w.to);
-    match module_in(line, first) {
+    let word = word_at(line, w.to);
+    match module_in(line, word) {
         Narrow::Wrong(f) => Line::Wrong(f),
-        Narrow::Is(module) => {
-            let second = word_at(line, first.to);
-            match oscillator_in(line, second) {
-                Narrow::Wrong(f) => Line::Wrong(f),
-                Narrow::Is(oscillator) => ended(
-                    word_at(line, second.to),
-                    Line::Call(
-                        time,
-                        Request::Environment(mode, module == 1, oscillator == 1),
-                    ),
-                ),
-            }
-        }
+        Narrow::Is(module) => oscillator_line(time, mode, module == 1, line, word),
     }
 }
 
@@ -142,10 +148,10 @@ pub fn environment_line(time: Time, line: &[u8], w: Word) -> Line
     requires { ⌜ w .to ≤ length (now line) ⌝ }
     ensures { λ r. ⌜ r ≡ environmentLine time (now (line .entry)) w ⌝ }
 {
-    let first = word_at(line, w.to);
-    match mode_in(line, first) {
+    let word = word_at(line, w.to);
+    match mode_in(line, word) {
         Narrow::Wrong(f) => Line::Wrong(f),
-        Narrow::Is(mode) => supplies_line(time, mode, line, first),
+        Narrow::Is(mode) => module_line(time, mode, line, word),
     }
 }
 
@@ -153,18 +159,15 @@ fn cell_line(time: Time, address: u16, line: &[u8], w: Word) -> Line
     requires { ⌜ w .to ≤ length (now line) ⌝ }
     ensures { λ r. ⌜ r ≡ cellLine time address (now (line .entry)) w ⌝ }
 {
-    let first = word_at(line, w.to);
-    let from = first.from;
-    let to = first.to;
+    let word = word_at(line, w.to);
+    let from = word.from;
+    let to = word.to;
     if from == to {
         return Line::Look(time, Looking::Byte(address));
     }
-    match bit_in(line, first) {
+    match bit_in(line, word) {
         Narrow::Wrong(f) => Line::Wrong(f),
-        Narrow::Is(bit) => ended(
-            word_at(line, to),
-            Line::Look(time, Looking::Cell(address, bit)),
-        ),
+        Narrow::Is(bit) => ended(Line::Look(time, Looking::Cell(address, bit)), line, word),
     }
 }
 
@@ -172,14 +175,14 @@ pub fn look_line(time: Time, line: &[u8], w: Word) -> Line
     requires { ⌜ w .to ≤ length (now line) ⌝ }
     ensures { λ r. ⌜ r ≡ lookLine time (now (line .entry)) w ⌝ }
 {
-    let first = word_at(line, w.to);
-    let from = first.from;
-    let to = first.to;
+    let word = word_at(line, w.to);
+    let from = word.from;
+    let to = word.to;
     if from == to {
         return Line::Look(time, Looking::Whole);
     }
-    match address_in(SIZE, Reason::PastTheEnd, line, first) {
+    match address_in(SIZE, Reason::PastTheEnd, line, word) {
         Wide::Wrong(f) => Line::Wrong(f),
-        Wide::Is(address) => cell_line(time, address, line, first),
+        Wide::Is(address) => cell_line(time, address, line, word),
     }
 }

@@ -31,20 +31,20 @@ word-line-requires c κs = search needs
 enum-told-5 : tie.Need-enum-told-5
 enum-told-5 c = search needs
 
-bare-line-requires : tie.Need-bare-line-requires
-bare-line-requires c κs = search needs
+ended-requires : tie.Need-ended-requires
+ended-requires c κs = search needs
 
 enum-told-6 : tie.Need-enum-told-6
 enum-told-6 c = search needs
 
-bare-line-requires-2 : tie.Need-bare-line-requires-2
-bare-line-requires-2 c κs = search needs
+ended-requires-2 : tie.Need-ended-requires-2
+ended-requires-2 c κs = search needs
 
 enum-told-7 : tie.Need-enum-told-7
 enum-told-7 c = search needs
 
-bare-line-requires-3 : tie.Need-bare-line-requires-3
-bare-line-requires-3 c κs = search needs
+ended-requires-3 : tie.Need-ended-requires-3
+ended-requires-3 c κs = search needs
 
 enum-told-8 : tie.Need-enum-told-8
 enum-told-8 c = search needs
@@ -79,15 +79,15 @@ returns-4 c = rw (c .before .enum-told4 .given .1) (c .word-line .ensures)
 
 returns-5 : tie.Need-returns-5
 unfolding lineFor
-returns-5 c = rw (c .before .enum-told5 .given .1) (c .bare-line .ensures)
+returns-5 c = rw (c .before .enum-told5 .given .1) (c .ended .ensures)
 
 returns-6 : tie.Need-returns-6
 unfolding lineFor
-returns-6 c = rw (c .before .enum-told6 .given .1) (c .bare-line2 .ensures)
+returns-6 c = rw (c .before .enum-told6 .given .1) (c .ended2 .ensures)
 
 returns-7 : tie.Need-returns-7
 unfolding lineFor
-returns-7 c = rw (c .before .enum-told7 .given .1) (c .bare-line3 .ensures)
+returns-7 c = rw (c .before .enum-told7 .given .1) (c .ended3 .ensures)
 
 returns-8 : tie.Need-returns-8
 unfolding lineFor
@@ -114,11 +114,11 @@ line-for-spec =
     enum-told-4
     word-line-requires
     enum-told-5
-    bare-line-requires
+    ended-requires
     enum-told-6
-    bare-line-requires-2
+    ended-requires-2
     enum-told-7
-    bare-line-requires-3
+    ended-requires-3
     enum-told-8
     environment-line-requires
     enum-told-9

@@ -1,4 +1,4 @@
--- `grammar::lines::cell_line` meets its contract: the words are those of the definition, one after the other, and each has what the definition says of it. Assumes nothing.
+-- `grammar::lines::cell_line` meets its contract, by the word that it finds and what that means. Assumes nothing.
 use mathlib.Core.Path.{sym, _∙_}
 use borrow.Author.Tests.{eq-eqb, ne-eqb}
 use Rattle.grammar.specs.Grammar.{cellLine}
@@ -22,9 +22,6 @@ enum-known-f c = search needs
 enum-known-bit : tie.Need-enum-known-bit
 enum-known-bit c = search needs
 
-word-at-requires-2 : tie.Need-word-at-requires-2
-word-at-requires-2 c κs = search needs
-
 ended-requires : tie.Need-ended-requires
 ended-requires c κs = search needs
 
@@ -39,11 +36,10 @@ returns-2 c =
 returns-3 : tie.Need-returns-3
 unfolding cellLine
 returns-3 c =
-    let b3 = c .before .before .before in
-    let b5 = b3 .before .before in
+    let b4 = c .before .before .before .before in
+    let b5 = b4 .before in
     let b6 = b5 .before in
-    let b7 = b6 .before in
-    rw (← b7 .word-at .ensures .is, ne-eqb _ _ (b6 .if1 .left), sym (b5 .bit-in .ensures) ∙ b3 .bit .given .1, ← c .before .word-at2 .ensures .is) (c .ended .ensures)
+    rw (← b6 .word-at .ensures .is, ne-eqb _ _ (b5 .if1 .left), sym (b4 .bit-in .ensures) ∙ c .before .before .bit .given .1) (c .ended .ensures)
 
 pub cell-line-spec : {M : Type 1} → statement M
 cell-line-spec =
@@ -54,7 +50,6 @@ cell-line-spec =
     bit-in-requires
     enum-known-f
     enum-known-bit
-    word-at-requires-2
     ended-requires
     returns-2
     returns-3)

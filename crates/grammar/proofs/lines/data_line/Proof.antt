@@ -1,4 +1,4 @@
--- `grammar::lines::data_line` meets its contract: the words are those of the definition, one after the other, and each has what the definition says of it. Assumes nothing.
+-- `grammar::lines::data_line` meets its contract, by the word that it finds and what that means. Assumes nothing.
 use mathlib.Core.Path.{sym, _∙_}
 use Rattle.grammar.specs.Grammar.{dataLine}
 use borrow.Author.Needs.{needs}
@@ -17,23 +17,8 @@ enum-known-f c = search needs
 enum-known-address : tie.Need-enum-known-address
 enum-known-address c = search needs
 
-word-at-requires-2 : tie.Need-word-at-requires-2
-word-at-requires-2 c κs = search needs
-
-byte-in-requires : tie.Need-byte-in-requires
-byte-in-requires c κs = search needs
-
-enum-known-f-2 : tie.Need-enum-known-f-2
-enum-known-f-2 c = search needs
-
-enum-known-value : tie.Need-enum-known-value
-enum-known-value c = search needs
-
-word-at-requires-3 : tie.Need-word-at-requires-3
-word-at-requires-3 c κs = search needs
-
-ended-requires : tie.Need-ended-requires
-ended-requires c κs = search needs
+byte-line-requires : tie.Need-byte-line-requires
+byte-line-requires c κs = search needs
 
 returns : tie.Need-returns
 unfolding dataLine
@@ -45,23 +30,9 @@ returns c =
 returns-2 : tie.Need-returns-2
 unfolding dataLine
 returns-2 c =
-    let b3 = c .before .before .before in
-    let b4 = b3 .before in
-    let b6 = b4 .before .before in
-    let b8 = b6 .before .before in
-    let b9 = b8 .before in
-    rw (← b9 .word-at .ensures .is, sym (b8 .address-in .ensures) ∙ b6 .address .given .1, ← b4 .word-at2 .ensures .is, sym (b3 .byte-in .ensures) ∙ c .before .f2 .given .1)
-
-returns-3 : tie.Need-returns-3
-unfolding dataLine
-returns-3 c =
-    let b3 = c .before .before .before in
-    let b5 = b3 .before .before in
-    let b6 = b5 .before in
-    let b8 = b6 .before .before in
-    let b10 = b8 .before .before in
-    let b11 = b10 .before in
-    rw (← b11 .word-at .ensures .is, sym (b10 .address-in .ensures) ∙ b8 .address .given .1, ← b6 .word-at2 .ensures .is, sym (b5 .byte-in .ensures) ∙ b3 .value .given .1, ← c .before .word-at3 .ensures .is) (c .ended .ensures)
+    let b4 = c .before .before .before .before in
+    let b5 = b4 .before in
+    rw (← b5 .word-at .ensures .is, sym (b4 .address-in .ensures) ∙ c .before .before .address .given .1) (c .byte-line .ensures)
 
 pub data-line-spec : {M : Type 1} → statement M
 data-line-spec =
@@ -71,12 +42,6 @@ data-line-spec =
     address-in-requires
     enum-known-f
     enum-known-address
-    word-at-requires-2
-    byte-in-requires
-    enum-known-f-2
-    enum-known-value
-    word-at-requires-3
-    ended-requires
+    byte-line-requires
     returns
-    returns-2
-    returns-3)
+    returns-2)

@@ -1,4 +1,4 @@
--- `grammar::lines::environment_line` meets its contract: the words are those of the definition, one after the other, and each has what the definition says of it. Assumes nothing.
+-- `grammar::lines::environment_line` meets its contract, by the word that it finds and what that means. Assumes nothing.
 use mathlib.Core.Path.{sym, _∙_}
 use Rattle.grammar.specs.Grammar.{environmentLine}
 use borrow.Author.Needs.{needs}
@@ -17,8 +17,8 @@ enum-known-f c = search needs
 enum-known-mode : tie.Need-enum-known-mode
 enum-known-mode c = search needs
 
-supplies-line-requires : tie.Need-supplies-line-requires
-supplies-line-requires c κs = search needs
+module-line-requires : tie.Need-module-line-requires
+module-line-requires c κs = search needs
 
 returns : tie.Need-returns
 unfolding environmentLine
@@ -32,7 +32,7 @@ unfolding environmentLine
 returns-2 c =
     let b4 = c .before .before .before .before in
     let b5 = b4 .before in
-    rw (← b5 .word-at .ensures .is, sym (b4 .mode-in .ensures) ∙ c .before .before .mode .given .1) (c .supplies-line .ensures)
+    rw (← b5 .word-at .ensures .is, sym (b4 .mode-in .ensures) ∙ c .before .before .mode .given .1) (c .module-line .ensures)
 
 pub environment-line-spec : {M : Type 1} → statement M
 environment-line-spec =
@@ -42,6 +42,6 @@ environment-line-spec =
     mode-in-requires
     enum-known-f
     enum-known-mode
-    supplies-line-requires
+    module-line-requires
     returns
     returns-2)

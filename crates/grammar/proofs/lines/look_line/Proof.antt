@@ -1,4 +1,4 @@
--- `grammar::lines::look_line` meets its contract: the words are those of the definition, one after the other, and each has what the definition says of it. Assumes nothing.
+-- `grammar::lines::look_line` meets its contract, by the word that it finds and what that means. Assumes nothing.
 use mathlib.Core.Path.{sym, _∙_}
 use borrow.Author.Tests.{eq-eqb, ne-eqb}
 use Rattle.grammar.specs.Grammar.{lookLine}

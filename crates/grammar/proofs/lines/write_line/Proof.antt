@@ -1,4 +1,4 @@
--- `grammar::lines::write_line` meets its contract: the words are those of the definition, one after the other, and each has what the definition says of it. Assumes nothing.
+-- `grammar::lines::write_line` meets its contract, by the word that it finds and what that means. Assumes nothing.
 use mathlib.Core.Path.{sym, _∙_}
 use Rattle.grammar.specs.Grammar.{writeLine}
 use borrow.Author.Needs.{needs}
@@ -17,23 +17,8 @@ enum-known-f c = search needs
 enum-known-register : tie.Need-enum-known-register
 enum-known-register c = search needs
 
-word-at-requires-2 : tie.Need-word-at-requires-2
-word-at-requires-2 c κs = search needs
-
-value-in-requires : tie.Need-value-in-requires
-value-in-requires c κs = search needs
-
-enum-known-f-2 : tie.Need-enum-known-f-2
-enum-known-f-2 c = search needs
-
-enum-known-value : tie.Need-enum-known-value
-enum-known-value c = search needs
-
-word-at-requires-3 : tie.Need-word-at-requires-3
-word-at-requires-3 c κs = search needs
-
-ended-requires : tie.Need-ended-requires
-ended-requires c κs = search needs
+value-line-requires : tie.Need-value-line-requires
+value-line-requires c κs = search needs
 
 returns : tie.Need-returns
 unfolding writeLine
@@ -45,23 +30,9 @@ returns c =
 returns-2 : tie.Need-returns-2
 unfolding writeLine
 returns-2 c =
-    let b3 = c .before .before .before in
-    let b4 = b3 .before in
-    let b6 = b4 .before .before in
-    let b8 = b6 .before .before in
-    let b9 = b8 .before in
-    rw (← b9 .word-at .ensures .is, sym (b8 .register-in .ensures) ∙ b6 .register .given .1, ← b4 .word-at2 .ensures .is, sym (b3 .value-in .ensures) ∙ c .before .f2 .given .1)
-
-returns-3 : tie.Need-returns-3
-unfolding writeLine
-returns-3 c =
-    let b3 = c .before .before .before in
-    let b5 = b3 .before .before in
-    let b6 = b5 .before in
-    let b8 = b6 .before .before in
-    let b10 = b8 .before .before in
-    let b11 = b10 .before in
-    rw (← b11 .word-at .ensures .is, sym (b10 .register-in .ensures) ∙ b8 .register .given .1, ← b6 .word-at2 .ensures .is, sym (b5 .value-in .ensures) ∙ b3 .value .given .1, ← c .before .word-at3 .ensures .is) (c .ended .ensures)
+    let b4 = c .before .before .before .before in
+    let b5 = b4 .before in
+    rw (← b5 .word-at .ensures .is, sym (b4 .register-in .ensures) ∙ c .before .before .register .given .1) (c .value-line .ensures)
 
 pub write-line-spec : {M : Type 1} → statement M
 write-line-spec =
@@ -71,12 +42,6 @@ write-line-spec =
     register-in-requires
     enum-known-f
     enum-known-register
-    word-at-requires-2
-    value-in-requires
-    enum-known-f-2
-    enum-known-value
-    word-at-requires-3
-    ended-requires
+    value-line-requires
     returns
-    returns-2
-    returns-3)
+    returns-2)
