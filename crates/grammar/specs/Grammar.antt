@@ -1,4 +1,5 @@
--- A line of a history: nothing, a call or a look at its time, or the first fault from left to right.
+-- A line of a history: nothing, a call or a look at its time, or the first fault from left to right. Its words are a time, a call's
+-- word and the call's words, and nothing more.
 -- Assumes nothing.
 use Prim.Native.Nat.{ℕ, _-_}
 use mathlib.Core.Bool.{Bool, cond}
@@ -7,7 +8,6 @@ use lib.Dec.{eqb}
 use Rattle.time.specs.declared.Time.{Time}
 use Rattle.cell.specs.Cell.{arrayBytes}
 use Rattle.reason.specs.declared.Reason.the-variants.{NoCall, UnknownCall, MoreWords, PastTheEnd, WordPastTheEnd}
-use Rattle.lent.specs.declared.Request.{Request}
 use Rattle.lent.specs.declared.Request.the-variants as request
 use Rattle.moments.specs.declared.Before.{Before}
 use Rattle.moments.specs.declared.Moment.{Moment}

@@ -11,7 +11,6 @@ use Rattle.reason.specs.declared.Reason.the-variants as reason
 use Rattle.lent.specs.declared.Request.the-variants.{WriteRegister, Write8, Reset, Environment}
 use Rattle.moments.specs.declared.Before.the-variants as earlier
 use Rattle.words.specs.Text.{text}
-use Rattle.fields.specs.declared.Fault.{Fault}
 use Rattle.grammar.specs.declared.Line.{Line}
 use Rattle.grammar.specs.declared.Line.the-variants.{Nothing, Call, Look, Wrong}
 use Rattle.grammar.specs.declared.Looking.the-variants.{Whole, Byte, Cell}

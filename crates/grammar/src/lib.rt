@@ -10,7 +10,7 @@ use crate::lines::look_line;
 use crate::lines::read_line;
 use crate::lines::word_line;
 use crate::lines::write_line;
-use fields::Fault;
+pub use fields::Fault;
 use lent::Request;
 use moments::Before;
 use moments::Moment;

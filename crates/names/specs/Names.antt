@@ -6,7 +6,7 @@ use mathlib.Core.Bool.{cond}
 use mathlib.Core.List.{List, [], _∷_}
 use lib.Dec.{eqb}
 use Rattle.control.specs.Bits.{FLMCR1, FLMCR2, FLPWCR, EBR1, FENR, SWE, ESU, PSU, EV, PV, E, P, FLAG}
-use Rattle.words.specs.Text.{text, spells, placeOf}
+use Rattle.words.specs.Text.{text, spells}
 use Rattle.names.specs.declared.Kind.{Kind}
 use Rattle.names.specs.declared.Kind.the-variants.{Write, Data, Read, Word, Protect, Reset, PowerOff, Environment, Look, Unknown}
 

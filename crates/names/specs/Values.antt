@@ -1,4 +1,5 @@
--- The value of a register as names of its bits, joined by `+`. Assumes nothing.
+-- The value of a register as names of its bits, joined by `+`. It is their sum, and none may be there twice.
+-- Assumes nothing.
 use Prim.Native.Nat.{ℕ, _+_}
 use mathlib.Core.Bool.{cond}
 use mathlib.Core.List.{List, [], _∷_}

@@ -1,4 +1,5 @@
--- Texts as bytes: the bytes of a name, whether bytes spell a name, and the parts of a text between separators.
+-- Texts as bytes: the bytes of a name, whether bytes spell a name, and the parts of a text between separators. Names are written in
+-- capitals, and letters' case does not matter where they are read.
 -- Assumes nothing.
 use Prim.Native.Nat.{ℕ, zero, suc, _-_}
 use Prim.Native.Char.{code}
@@ -16,7 +17,7 @@ text (c then s) = code c ∷ text s
 abbrev pub capital : ℕ → ℕ
 capital b = cond (leb 97 b && leb b 122) (b - 32) b
 
--- Whether bytes spell a name that is written in capitals: letters' case does not matter.
+-- whether bytes spell a name
 unfoldable pub spells : List ℕ → List ℕ → Bool
 spells [] [] = true
 spells [] (b ∷ bs) = false

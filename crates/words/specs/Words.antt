@@ -1,4 +1,5 @@
--- The words of a line: what stands between blanks, up to the line's end or its comment.
+-- The words of a line: what stands between blanks, up to the line's end or its comment. A line is a list of bytes, without its line
+-- feed.
 -- Assumes nothing.
 use Prim.Native.Nat.{ℕ, zero, suc, _+_, _≤_}
 use mathlib.Core.Bool.{Bool, cond, not, _||_}

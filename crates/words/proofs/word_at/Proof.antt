@@ -1,5 +1,4 @@
 -- `words::word_at` meets its contract: blanks, then the word's bytes. Assumes nothing.
-use mathlib.Core.Path.{_≡_, refl}
 use borrow.Author.Needs.{needs}
 use Rattle.words.specs.Words.{wordAt}
 use Rattle.words.proofs.word_at.Statement.{statement}

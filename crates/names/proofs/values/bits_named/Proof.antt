@@ -1,6 +1,6 @@
 -- `names::values::bits_named` meets its contract. The loop's invariant: the sum so far with the parts left makes what all parts make.
 -- Assumes nothing.
-use Prim.Native.Nat.{_+_, _≤_, _<_, _-_}
+use Prim.Native.Nat.{_≤_, _<_, _-_}
 use mathlib.Core.Path.{_≡_, refl, sym, _∙_}
 use borrow.Author.Needs.{needs}
 use Rattle.bytes.specs.Bytes.{slice}

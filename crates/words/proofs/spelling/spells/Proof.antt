@@ -1,12 +1,10 @@
 -- `words::spelling::spells` meets its contract. The loop's invariant: what is left of the bytes spells what is left of the name just
 -- where the whole spells the whole. Assumes nothing.
 use Prim.Native.Nat.{_+_, _≤_, _-_}
-use mathlib.Core.Bool.{true}
-use mathlib.Core.Path.{_≡_, refl, sym, _∙_}
+use mathlib.Core.Path.{_≡_, sym, _∙_}
 use native.Mathlib.Nat.{add-zero, add-assoc}
 use native.Mathlib.Omega.{arith}
 use borrow.Author.Needs.{needs}
-use borrow.Author.Tests.{eq-eqb, ne-eqb}
 use lib.ListN.{length, drop}
 use lib.Seq.{length-slice}
 use Rattle.bytes.specs.Bytes.{slice}
