@@ -6,6 +6,7 @@ use mathlib.Core.Bool.{Bool, true, false, cond, not, _||_, true≢false}
 use mathlib.Core.List.{List, [], _∷_, _++_, append-nil}
 use Prim.Native.Nat.{ℕ, zero, suc, _+_, _-_, _≤_, _<_}
 use native.Mathlib.Nat.{add-suc, add-zero, suc-add}
+use native.Mathlib.Numerals.{add-one}
 use native.Mathlib.Omega.{arith}
 use borrow.Author.Tests.{not-false}
 use lib.Dec.{eqb, eqb·suc-zero}
@@ -17,7 +18,7 @@ use Rattle.flash.specs.Chip.{Chip, step, answer}
 use Rattle.lent.specs.declared.Request.{Request}
 use Rattle.lent.specs.declared.Request.the-variants.{WriteRegister, Write8, Read8, Read16, Protect, Reset, PowerOff, Environment}
 use Rattle.lent.specs.Memory.{Memory, chipIn, memoryOf}
-use Rattle.lent.specs.Asked.{Outcome, callOf, refusal, outcomeBy, outcome}
+use Rattle.lent.specs.Asked.{Outcome, Told, callOf, refusal, outcomeBy, outcome}
 use Rattle.ledger.specs.Lists.{Asked, asked, memoryAfter, wordsOf, eventsOf}
 use Rattle.replay.specs.Calls.{callAt}
 use Rattle.replay.specs.Replaying.{stops, reads, idle, asksAfter, lastOf, Replays}
@@ -135,3 +136,18 @@ unsaid q t lent m e = by (refusal q t (length lent) m) e
         let z = none (done .events) (not-false _ (neither (not (eqb 0 0)) _ (p .0) .1)) in
         λ i. record { number = 0; value = unread q t (chipIn m) (p .1) i; memory = memoryOf (done .chip); events = sets lent 0 (z i); count = length (z i) }
     by (suc n) e = absurd (true≢false (rw (eqb·suc-zero n) at (neither (not (eqb (suc n) 0)) _ (neither _ (reads q) e .0) .0)))
+
+-- ---- the first call is refused
+
+pub told-is : {o : Outcome} {number value count : ℕ} {bytes array charges events : List ℕ} → Told o number count bytes array charges events → value ≡ o .value
+    → o ≡ record { number = number; value = value; memory = record { bytes = bytes; array = array; charges = charges }; events = events; count = count }
+told-is t v =
+    λ i. record { number = sym (t .number-is) i; value = sym v i; memory = record { bytes = sym (t .record-is) i; array = sym (t .array-is) i; charges = sym (t .charges-are) i }; events = sym (t .events-are) i; count = sym (t .count-is) i }
+
+pub refused-first : (end from : ℕ) (calls lent : List ℕ) (m : Memory) → from < end → (n : ℕ)
+    → Told (asked (callAt calls from lent) m) (suc n) 0 (m .bytes) (m .array) (m .charges) lent → 0 ≡ asked (callAt calls from lent) m .value
+    → Replays from (asksAfter (idle lent m) (end - from) from calls) lent m (from + 1) (suc n) 0 0 (m .bytes) (m .array) (m .charges) lent
+refused-first end from calls lent m h n t v =
+    let o = told-is t v in
+    let s = ended-stop end from calls (idle lent m) h (rw (o, eqb·suc-zero n)) in
+    replays end from calls lent m (rw (s, o, add-one from))

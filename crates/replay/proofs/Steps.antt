@@ -32,7 +32,7 @@ use Rattle.replay.specs.Held.{chip, Ready, leaves, Called, Ended, ended,
 use Rattle.replay.specs.Light.{settingsOf, withSettings, Changed, lit, mayPulse, opens, light, sinceAfter}
 use Rattle.replay.proofs.Numbers.{numbers-in}
 use Rattle.replay.proofs.Holding.{call-done}
-use Rattle.replay.proofs.Going.{ended-stop, ended-on, unsaid}
+use Rattle.replay.proofs.Going.{ended-end, ended-stop, ended-on, unsaid}
 use Rattle.replay.proofs.Lights.{closed-pulse, Says, light-says, light-performed, light-accepted}
 
 -- ---- one call
@@ -110,4 +110,35 @@ module _ (end i : ℕ) (calls : List ℕ) (f : Flash) (s s′ : Settings) (since
           later = omega arith;
           ready = λ array charges r. light-called calls array charges r .ready;
           same = λ lent array charges r. step-on end i calls lent _ _ h (light-called lent array charges r) goes-on;
+        }
+
+-- ---- from the first call to here
+
+-- a replay that began at call i with chip k has come to call j with chip k′, and has given no event words
+pub record Gone (end : ℕ) (calls : List ℕ) (i : ℕ) (k : Chip) (lent : List ℕ) (j : ℕ) (k′ : Chip) (events : List ℕ) : Type 0 where
+  pub same : ended end i calls (idle lent (memoryOf k)) ≡ ended end j calls (idle events (memoryOf k′))
+  pub ready : Ready k′
+  pub events-stay : events ≡ lent
+
+pub gone-light : {end : ℕ} {calls : List ℕ} {i : ℕ} {k : Chip} {lent : List ℕ} {j : ℕ} {s : Flash} {array charges events : List ℕ} {l : ℕ} {t : Flash}
+    → Gone end calls i k lent j (chip s array charges) events → Onward end calls j s l t → Gone end calls i k lent l (chip t array charges) events
+gone-light g o = record { same = g .same ∙ o .same _ _ _ (g .ready); ready = o .ready _ _ (g .ready); events-stay = g .events-stay }
+
+module _ {end : ℕ} {calls : List ℕ} {i : ℕ} {k : Chip} {lent : List ℕ} {j : ℕ} {k′ : Chip} {events : List ℕ} (g : Gone end calls i k lent j k′ events) where
+  pub gone-end : end ≤ j → ended end i calls (idle lent (memoryOf k)) ≡ record { done = j; last = leaves k′ events 0 0 0 }
+  gone-end h = g .same ∙ ended-end end j calls (idle events (memoryOf k′)) h
+
+  module _ {k″ : Chip} {events′ : List ℕ} {number value count : ℕ} (h : j < end)
+      (c : Called (callAt calls j events .request) (callAt calls j events .time) events k′ k″ events′ number value count) where
+    pub gone-stop : stops (callAt calls j events .request) number count ≡ true
+        → ended end i calls (idle lent (memoryOf k)) ≡ record { done = j + 1; last = leaves k″ events′ number value count }
+    gone-stop e = g .same ∙ step-stop end j calls events k′ k″ h c e
+
+    pub gone-on : stops (callAt calls j events .request) number count ≡ false → Gone end calls i k lent (j + 1) k″ events′
+    gone-on e =
+        let s = step-events end j calls events k′ k″ h c e in
+        record {
+          same = g .same ∙ step-on end j calls events k′ k″ h c e ∙ ap (λ (es : List ℕ). ended end (j + 1) calls (idle es (memoryOf k″))) (sym s);
+          ready = c .ready;
+          events-stay = s ∙ g .events-stay;
         }
