@@ -1,0 +1,266 @@
+-- The call of a parsed line has arguments in their types' ranges: so many digits make no larger number, a place among names is below
+-- their count, and bits that are named once each make a byte. Assumes nothing.
+use Prim.Native.Nat.{ℕ, zero, suc, _+_, _-_, _^_, _<_, _≤_}
+use mathlib.Core.Bool.{Bool, true, false, cond}
+use mathlib.Core.List.{List, [], _∷_}
+use mathlib.Core.Path.{_≡_, refl, sym, _∙_}
+use native.Mathlib.Omega.{arith}
+use borrow.Author.Tests.{eqb-true, eqb-false, ltb-true, ltb-false}
+use lib.Dec.{eqb, ltb}
+use lib.ListN.{length}
+use lib.Seq.{length-slice, take-length}
+use Rattle.bytes.specs.Bytes.{slice, indexOf, indexAfter}
+use Rattle.time.specs.declared.Time.{Time}
+use Rattle.time.proofs.Bools.{either}
+use Rattle.control.specs.Bits.{has}
+use Rattle.reason.specs.declared.Reason.{Reason}
+use Rattle.reason.specs.declared.Reason.the-variants.{NoMode}
+use Rattle.lent.specs.declared.Request.{Request}
+use Rattle.ledger.specs.Lists.{Numbers}
+use Rattle.words.specs.declared.Word.{Word}
+use Rattle.words.specs.Words.{wordAt}
+use Rattle.words.specs.Text.{spells, split, placeOf}
+use Rattle.names.specs.declared.Kind.{Kind}
+use Rattle.names.specs.declared.Kind.the-variants as kind
+use Rattle.names.specs.declared.Bits.{Bits}
+use Rattle.names.specs.declared.Bits.the-variants as bits
+use Rattle.names.specs.Names.{Entry, named, registers, callNamed, registerNamed, bitNamed, modes}
+use Rattle.names.specs.Values.{bitsFrom, bitsNamed}
+use Rattle.names.proofs.Sums.{bit-within, sum-not, sum-twice, sum-last, sum-more}
+use Rattle.digits.specs.declared.Number.{Number}
+use Rattle.digits.specs.declared.Number.the-variants as number
+use Rattle.digits.specs.Digits.{hexIn}
+use Rattle.digits.proofs.Laws.{hex-below}
+use Rattle.moments.specs.declared.Before.{Before}
+use Rattle.moments.specs.declared.Moment.{Moment}
+use Rattle.moments.specs.declared.Moment.the-variants as moment
+use Rattle.moments.specs.Moments.{momentOf}
+use Rattle.fields.specs.declared.Fault.{Fault}
+use Rattle.fields.specs.declared.Wide.{Wide}
+use Rattle.fields.specs.declared.Wide.the-variants as wide
+use Rattle.fields.specs.declared.Narrow.{Narrow}
+use Rattle.fields.specs.declared.Narrow.the-variants as narrow
+use Rattle.fields.specs.Fields.{bytesOf, missing, faultAt, registerIn, registerOf, valueIn, valueOf, addressIn, addressOf, byteIn, byteOf, modeIn, moduleIn, oscillatorIn, bitIn}
+use Rattle.grammar.specs.declared.Looking.{Looking}
+use Rattle.grammar.specs.declared.Line.{Line}
+use Rattle.grammar.specs.declared.Line.the-variants.{Nothing, Call, Look, Wrong}
+use Rattle.grammar.specs.Grammar.{next, onWide, onNarrow, ended, writeLine, dataLine, readLine, wordLine, valueLine, byteLine, oscillatorLine, moduleLine, environmentLine, cellLine, lookLine, lineFor, callLine, timedLine, lineOf}
+
+-- ---- bits by their names
+
+index-le : (b : ℕ) (xs : List ℕ) → indexOf b xs ≤ length xs
+unfolding indexOf indexAfter
+index-le b [] = omega arith
+index-le b (x ∷ xs) = by (eqb x b) (index-le b xs)
+  where
+    by : (t : Bool) → indexOf b xs ≤ length xs → indexAfter t (indexOf b xs) ≤ suc (length xs)
+    by true h = omega arith
+    by false h = omega arith
+
+index-inside : (b i to : ℕ) (xs : List ℕ) → i ≤ to → to ≤ length xs → i + indexOf b (slice i to xs) ≤ to
+unfolding slice
+index-inside b i to xs h k = omega (arith, index-le b (slice i to xs), length-slice i to xs k)
+
+-- from a place on, part after part
+module _ (register : ℕ) (bs : List ℕ) (v : ℕ) where
+  -- in so many turns
+  abbrev InTurns : ℕ → Type 0
+  InTurns turns =
+      (i sum : ℕ) → length bs - i < turns → i ≤ length bs → sum < 256 → bitsFrom register sum (split 43 (slice i (length bs) bs)) ≡ bits.Is v → v < 256
+
+  one-part : (turns : ℕ) → InTurns turns → InTurns (suc turns)
+  one-part turns rest i sum f h l e = by (eqb bit 0) (has sum bit) (ltb end to) refl refl refl
+    where
+      to : ℕ
+      to = length bs
+
+      end : ℕ
+      end = i + indexOf 43 (slice i to bs)
+
+      bit : ℕ
+      bit = bitNamed register (slice i end bs)
+
+      inside : to ≤ length bs
+      inside = omega arith
+
+      bound : end ≤ to
+      bound = index-inside 43 i to bs h inside
+
+      within : has sum bit ≡ false → sum + bit < 256
+      within unset = bit-within register bs i to end inside refl bound sum bit refl l unset
+
+      by : (z t m : Bool) → eqb bit 0 ≡ z → has sum bit ≡ t → ltb end to ≡ m → v < 256
+      by true t m none twice more =
+          let no = sym (sum-not register bs i to end inside refl bound sum bit refl (eqb-true bit 0 none)) ∙ e in
+          let z : _≡_ {A = ℕ} 0 1 = cc in
+          omega arith
+      by false true m none twice more =
+          let no = sym (sum-twice register bs i to end inside refl bound sum bit refl (eqb-false bit 0 none) twice) ∙ e in
+          let z : _≡_ {A = ℕ} 0 1 = cc in
+          omega arith
+      by false false true none twice more =
+          let further = ltb-true end to more in
+          rest (end + 1) (sum + bit) (omega arith) (omega arith) (within twice)
+          (sum-more register bs i to end inside refl bound sum bit refl (eqb-false bit 0 none) twice further ∙ e)
+      by false false false none twice more =
+          let at-end : end ≡ to = omega (arith, bound, ltb-false end to more) in
+          let last = sym (sum-last register bs i to end inside refl bound sum bit refl (eqb-false bit 0 none) twice at-end) ∙ e in
+          let is : sum + bit ≡ v = cc in
+          omega (arith, within twice)
+
+  in-turns : (turns : ℕ) → InTurns turns
+  in-turns zero = λ i sum f h l e. omega arith
+  in-turns (suc turns) = one-part turns (in-turns turns)
+
+  bits-below : bitsNamed register bs ≡ bits.Is v → v < 256
+  unfolding bitsNamed slice
+  bits-below e = in-turns (suc (length bs)) 0 0 (omega arith) (omega arith) (omega arith) (rw take-length e)
+
+-- ---- a word's number
+
+data WideIn : Wide → Type 0 where
+  is : (n : ℕ) → n < 2 ^ 16 → WideIn (wide.Is n)
+  wrong : {f : Fault} → WideIn (wide.Wrong f)
+
+data NarrowIn : Narrow → Type 0 where
+  is : (n : ℕ) → n < 2 ^ 8 → NarrowIn (narrow.Is n)
+  wrong : {f : Fault} → NarrowIn (narrow.Wrong f)
+
+Each : List (Entry ℕ) → Type 0
+Each [] = Unit {0}
+Each (e ∷ es) = (e .meaning < 2 ^ 16) × Each es
+
+named-below : (es : List (Entry ℕ)) (bs : List ℕ) → Each es → named es 0 bs < 2 ^ 16
+unfolding Each
+named-below [] bs all = omega arith
+named-below (e ∷ es) bs all = by (spells (e .name) bs) (all .0) (named-below es bs (all .1))
+  where
+    by : (t : Bool) {m n : ℕ} → m < 2 ^ 16 → n < 2 ^ 16 → cond t m n < 2 ^ 16
+    by true h k = h
+    by false h k = k
+
+register-below : (bs : List ℕ) → registerNamed bs < 2 ^ 16
+unfolding registerNamed Each
+register-below bs = named-below registers bs (omega arith, (omega arith, (omega arith, (omega arith, (omega arith, tt)))))
+
+module _ (line : List ℕ) (w : Word) where
+  register-in : WideIn (registerIn line w)
+  unfolding registerIn
+  register-in = either WideIn (eqb (registerNamed (bytesOf line w)) 0) (by (hexIn 4 (bytesOf line w)) refl) (is _ (register-below (bytesOf line w)))
+    where
+      by : (n : Number) → hexIn 4 (bytesOf line w) ≡ n → WideIn (registerOf w n)
+      by (number.Is n) e = is n (omega (arith, hex-below 4 (bytesOf line w) n e))
+      by number.TooLarge e = wrong
+      by number.Not e = wrong
+
+  value-in : (register : ℕ) → NarrowIn (valueIn register line w)
+  unfolding valueIn
+  value-in register = by (hexIn 2 (bytesOf line w)) (bitsNamed register (bytesOf line w)) refl refl
+    where
+      by : (n : Number) (b : Bits) → hexIn 2 (bytesOf line w) ≡ n → bitsNamed register (bytesOf line w) ≡ b → NarrowIn (valueOf w n b)
+      by (number.Is n) b e d = is n (omega (arith, hex-below 2 (bytesOf line w) n e))
+      by number.TooLarge (bits.Is v) e d = is v (bits-below register (bytesOf line w) v d)
+      by number.TooLarge bits.Twice e d = wrong
+      by number.TooLarge bits.Not e d = wrong
+      by number.Not (bits.Is v) e d = is v (bits-below register (bytesOf line w) v d)
+      by number.Not bits.Twice e d = wrong
+      by number.Not bits.Not e d = wrong
+
+  address-in : (limit : ℕ) (past : Reason) → WideIn (addressIn limit past line w)
+  unfolding addressIn
+  address-in limit past = by (hexIn 4 (bytesOf line w)) refl
+    where
+      by : (n : Number) → hexIn 4 (bytesOf line w) ≡ n → WideIn (addressOf limit past w n)
+      by (number.Is n) e = either WideIn (ltb n limit) (is n (omega (arith, hex-below 4 (bytesOf line w) n e))) wrong
+      by number.TooLarge e = wrong
+      by number.Not e = wrong
+
+  byte-in : NarrowIn (byteIn line w)
+  unfolding byteIn
+  byte-in = by (hexIn 2 (bytesOf line w)) refl
+    where
+      by : (n : Number) → hexIn 2 (bytesOf line w) ≡ n → NarrowIn (byteOf w n)
+      by (number.Is n) e = is n (omega (arith, hex-below 2 (bytesOf line w) n e))
+      by number.TooLarge e = wrong
+      by number.Not e = wrong
+
+  mode-in : NarrowIn (modeIn line w)
+  unfolding modeIn
+  mode-in = by (ltb (placeOf modes (bytesOf line w)) (length modes)) refl
+    where
+      by : (t : Bool) → ltb (placeOf modes (bytesOf line w)) (length modes) ≡ t → NarrowIn (cond t (narrow.Is (placeOf modes (bytesOf line w))) (narrow.Wrong (faultAt NoMode w)))
+      by true e = is (placeOf modes (bytesOf line w)) (omega (arith, ltb-true (placeOf modes (bytesOf line w)) (length modes) e))
+      by false e = wrong
+
+-- ---- a line
+
+pub data LineIn : Line → Type 0 where
+  nothing : LineIn Nothing
+  call : {t : Time} {q : Request} → Numbers q → LineIn (Call t q)
+  look : {t : Time} {l : Looking} → LineIn (Look t l)
+  wrong : {f : Fault} → LineIn (Wrong f)
+
+module _ {rest : ℕ → Line} where
+  on-wide : {x : Wide} → WideIn x → ((n : ℕ) → n < 2 ^ 16 → LineIn (rest n)) → LineIn (onWide x rest)
+  on-wide (is n h) k = k n h
+  on-wide wrong k = wrong
+
+  on-narrow : {x : Narrow} → NarrowIn x → ((n : ℕ) → n < 2 ^ 8 → LineIn (rest n)) → LineIn (onNarrow x rest)
+  on-narrow (is n h) k = k n h
+  on-narrow wrong k = wrong
+
+  on-any : (x : Narrow) → ((n : ℕ) → LineIn (rest n)) → LineIn (onNarrow x rest)
+  on-any (narrow.Is n) k = k n
+  on-any (narrow.Wrong f) k = wrong
+
+module _ (line : List ℕ) (w : Word) where
+  -- a word that is left over is a fault
+  end : {whole : Line} → LineIn whole → LineIn (ended whole line w)
+  unfolding ended
+  end h = either LineIn (missing (next line w)) h wrong
+
+-- the words of each call, from the last back
+module _ (t : Time) (line : List ℕ) where
+  oscillator-in : (mode : ℕ) (modul : Bool) (w : Word) → mode < 2 ^ 8 → LineIn (oscillatorLine t mode modul line w)
+  unfolding oscillatorLine
+  oscillator-in mode modul w h = on-any (oscillatorIn line (next line w)) (λ o. end line (next line w) (call h))
+
+  module-in : (mode : ℕ) (w : Word) → mode < 2 ^ 8 → LineIn (moduleLine t mode line w)
+  unfolding moduleLine
+  module-in mode w h = on-any (moduleIn line (next line w)) (λ p. oscillator-in mode (eqb p 1) (next line w) h)
+
+  cell-in : (a : ℕ) (w : Word) → LineIn (cellLine t a line w)
+  unfolding cellLine
+  cell-in a w = either LineIn (missing (next line w)) look (on-any (bitIn line (next line w)) (λ b. end line (next line w) look))
+
+  value-line : (r : ℕ) (w : Word) → r < 2 ^ 16 → LineIn (valueLine t r line w)
+  unfolding valueLine
+  value-line r w h = on-narrow (value-in line (next line w) r) (λ v k. end line (next line w) (call (h, k)))
+
+  byte-line : (a : ℕ) (w : Word) → a < 2 ^ 16 → LineIn (byteLine t a line w)
+  unfolding byteLine
+  byte-line a w h = on-narrow (byte-in line (next line w)) (λ v k. end line (next line w) (call (h, k)))
+
+  for-in : (k : Kind) (w : Word) → LineIn (lineFor k t line w)
+  unfolding lineFor writeLine dataLine readLine wordLine environmentLine lookLine
+  for-in kind.Write w = on-wide (register-in line (next line w)) (λ r h. value-line r (next line w) h)
+  for-in kind.Data w = on-wide (address-in line (next line w) _ _) (λ a h. byte-line a (next line w) h)
+  for-in kind.Read w = on-wide (address-in line (next line w) _ _) (λ a h. end line (next line w) (call h))
+  for-in kind.Word w = on-wide (address-in line (next line w) _ _) (λ a h. end line (next line w) (call h))
+  for-in kind.Protect w = end line w (call tt)
+  for-in kind.Reset w = end line w (call tt)
+  for-in kind.PowerOff w = end line w (call tt)
+  for-in kind.Environment w = on-narrow (mode-in line (next line w)) (λ m h. module-in m (next line w) h)
+  for-in kind.Look w =
+      either LineIn (missing (next line w)) look (on-wide (address-in line (next line w) _ _) (λ a h. cell-in a (next line w)))
+  for-in kind.Unknown w = wrong
+
+timed-in : (line : List ℕ) (w : Word) (m : Moment) → LineIn (timedLine line w m)
+unfolding callLine
+timed-in line w (moment.At t) = either LineIn (missing (next line w)) wrong (for-in t line (callNamed (bytesOf line (next line w))) (next line w))
+timed-in line w (moment.Wrong why) = wrong
+
+pub line-in : (b : Before) (line : List ℕ) → LineIn (lineOf b line)
+unfolding lineOf
+line-in b line =
+    let w = wordAt line 0 in either LineIn (missing w) nothing (timed-in line w (momentOf b (bytesOf line w)))

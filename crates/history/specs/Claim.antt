@@ -1,0 +1,39 @@
+-- The claim about the lines of a history: the replay reads, and runs, the calls that the text asks for, in its order.
+-- Assumes nothing.
+use Prim.Native.Nat.{ℕ, zero, suc, _+_, _*_, _≤_}
+use mathlib.Core.Path.{_≡_}
+use mathlib.Core.List.{List, [], _∷_, _++_, map}
+use lib.ListN.{length, take, drop}
+use lib.Seq.{sets}
+use Rattle.lent.specs.Memory.{Memory}
+use Rattle.ledger.specs.Lists.{Asked}
+use Rattle.replay.specs.Calls.{callAt}
+use Rattle.replay.specs.Replaying.{asks}
+use Rattle.history.specs.History.{Asking, callsIn, numbersOf, Waiting, takenAll}
+
+-- a call of the replay's, whatever event words it is lent
+abbrev pub asking : Asked → Asking
+asking q = record { request = q .request; time = q .time }
+
+-- n calls of a list from the i-th on, as the replay reads them
+unfoldable pub readFrom : ℕ → ℕ → List ℕ → List Asking
+readFrom zero i calls = []
+readFrom (suc n) i calls = asking (callAt calls i []) ∷ readFrom n (suc i) calls
+
+-- Where `asked` are the calls of lines that were taken after s waited, and `left` waits now:
+pub record Kept (asked : List Asking) (s left : Waiting) : Type 0 where
+  -- they wait behind those that waited, and no other number changed
+  pub count-is : left .count ≡ s .count + length asked
+  pub calls-are : left .calls ≡ sets (s .calls) (3 * s .count) (numbersOf asked)
+  pub first-numbers : take (3 * left .count) (left .calls) ≡ take (3 * s .count) (s .calls) ++ numbersOf asked
+  -- the replay reads them as what the lines ask for
+  pub read : readFrom (length asked) (s .count) (left .calls) ≡ asked
+  -- and a replay from any of them on runs those that follow, in their order, up to the one that stops it
+  pub run : (k : ℕ) (lent : List ℕ) (m : Memory)
+      → map asking (asks (s .count + k) (left .count) (left .calls) lent m)
+      ≡ take (length (asks (s .count + k) (left .count) (left .calls) lent m)) (drop k asked)
+
+-- for all lines, after whatever waits, in a slice with room for their calls
+pub record Histories : Type 0 where
+  pub of-every-text : (lines : List (List ℕ)) (s : Waiting) → 3 * (s .count + length (callsIn (s .before) lines)) ≤ length (s .calls)
+      → Kept (callsIn (s .before) lines) s (takenAll lines s)
