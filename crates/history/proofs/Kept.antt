@@ -18,9 +18,9 @@ use Rattle.ledger.specs.Lists.{Numbers, asked}
 use Rattle.moments.specs.declared.Before.{Before}
 use Rattle.grammar.specs.declared.Line.{Line}
 use Rattle.grammar.specs.Grammar.{lineOf}
-use Rattle.replay.specs.Calls.{wordOf, callAt}
-use Rattle.replay.specs.Replaying.{stops, idle, asksAfter, endIn, asks}
-use Rattle.replay.proofs.Numbers.{word-back}
+use Rattle.listing.specs.Calls.{wordOf, callAt}
+use Rattle.listing.specs.Replaying.{stops, idle, asksAfter, endIn, asks}
+use Rattle.listing.proofs.Numbers.{word-back}
 use Rattle.history.specs.History.{Asking, callsOf, timeAfter, callsIn, numbersOf, Waiting, taken, takenAll}
 use Rattle.history.specs.Claim.{asking, readFrom, Histories}
 use Rattle.history.proofs.Range.{LineIn, nothing, call, look, wrong, line-in}
@@ -41,8 +41,8 @@ taken-count : (lines : List (List ℕ)) (s : Waiting) → takenAll lines s .coun
 unfolding takenAll callsIn
 taken-count [] s = omega arith
 taken-count (line ∷ lines) s =
-    let l = lineOf (s .before) line in
-    taken-count lines (taken l s) ∙ rw (length-append (callsOf l) (callsIn (timeAfter l (s .before)) lines)) (omega arith)
+    taken-count lines (taken line s)
+    ∙ rw (length-append (callsOf (lineOf (s .before) line)) (callsIn (timeAfter (s .before) line) lines)) (omega arith)
 
 taken-calls : (lines : List (List ℕ)) (s : Waiting) → takenAll lines s .calls ≡ sets (s .calls) (3 * s .count) (numbersOf (callsIn (s .before) lines))
 unfolding takenAll callsIn
@@ -50,7 +50,7 @@ taken-calls [] s = refl
 taken-calls (line ∷ lines) s =
     let l = lineOf (s .before) line in
     let n : 3 * (s .count + length (callsOf l)) ≡ 3 * s .count + length (numbersOf (callsOf l)) = omega (arith, numbers-long (callsOf l)) in
-    taken-calls lines (taken l s) ∙ rw (n, numbers-append, sets-append)
+    taken-calls lines (taken line s) ∙ rw (n, numbers-append, sets-append)
 
 -- ---- what the replay reads
 
@@ -58,7 +58,7 @@ InRange : List Asking → Type 0
 InRange [] = Unit {0}
 InRange (a ∷ rest) = Numbers (a .request) × InRange rest
 
-line-range : {l : Line} (rest : List Asking) → LineIn l → InRange rest → InRange (callsOf l ++ rest)
+line-range : {b : Before} {l : Line} (rest : List Asking) → LineIn b l → InRange rest → InRange (callsOf l ++ rest)
 unfolding InRange
 line-range rest nothing k = k
 line-range rest (call h) k = (h, k)
@@ -68,7 +68,7 @@ line-range rest wrong k = k
 calls-range : (b : Before) (lines : List (List ℕ)) → InRange (callsIn b lines)
 unfolding callsIn InRange
 calls-range b [] = tt
-calls-range b (line ∷ lines) = line-range _ (line-in b line) (calls-range (timeAfter (lineOf b line) b) lines)
+calls-range b (line ∷ lines) = line-range _ (line-in b line) (calls-range (timeAfter b line) lines)
 
 -- calls in range, whose numbers stand behind those of i calls
 read-back : (xs : List Asking) (before after calls : List ℕ) (i : ℕ) → InRange xs → length before ≡ 3 * i → calls ≡ before ++ (numbersOf xs ++ after)

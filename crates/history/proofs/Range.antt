@@ -1,5 +1,6 @@
 -- The call of a parsed line has arguments in their types' ranges: so many digits make no larger number, a place among names is below
--- their count, and bits that are named once each make a byte. Assumes nothing.
+-- their count, and bits that are named once each make a byte. A call or a look is at the time that the line's first word says, from
+-- which the next line counts. Assumes nothing.
 use Prim.Native.Nat.{ℕ, zero, suc, _+_, _-_, _^_, _<_, _≤_}
 use mathlib.Core.Bool.{Bool, true, false, cond}
 use mathlib.Core.List.{List, [], _∷_}
@@ -32,6 +33,7 @@ use Rattle.digits.specs.declared.Number.the-variants as number
 use Rattle.digits.specs.Digits.{hexIn}
 use Rattle.digits.proofs.Laws.{hex-below}
 use Rattle.moments.specs.declared.Before.{Before}
+use Rattle.moments.specs.declared.Before.the-variants as before
 use Rattle.moments.specs.declared.Moment.{Moment}
 use Rattle.moments.specs.declared.Moment.the-variants as moment
 use Rattle.moments.specs.Moments.{momentOf}
@@ -45,6 +47,8 @@ use Rattle.grammar.specs.declared.Looking.{Looking}
 use Rattle.grammar.specs.declared.Line.{Line}
 use Rattle.grammar.specs.declared.Line.the-variants.{Nothing, Call, Look, Wrong}
 use Rattle.grammar.specs.Grammar.{next, onWide, onNarrow, ended, writeLine, dataLine, readLine, wordLine, valueLine, byteLine, oscillatorLine, moduleLine, environmentLine, cellLine, lookLine, lineFor, callLine, timedLine, lineOf}
+use Rattle.history.specs.History.{readOr, timeAfter}
+use Rattle.history.specs.Claim.{Times}
 
 -- ---- bits by their names
 
@@ -194,54 +198,58 @@ module _ (line : List ℕ) (w : Word) where
 
 -- ---- a line
 
-pub data LineIn : Line → Type 0 where
-  nothing : LineIn Nothing
-  call : {t : Time} {q : Request} → Numbers q → LineIn (Call t q)
-  look : {t : Time} {l : Looking} → LineIn (Look t l)
-  wrong : {f : Fault} → LineIn (Wrong f)
+-- with its arguments in range, and with the time from which the next line counts
+pub data LineIn : Before → Line → Type 0 where
+  nothing : {b : Before} → LineIn b Nothing
+  call : {t : Time} {q : Request} → Numbers q → LineIn (before.At t) (Call t q)
+  look : {t : Time} {l : Looking} → LineIn (before.At t) (Look t l)
+  wrong : {b : Before} {f : Fault} → LineIn b (Wrong f)
 
-module _ {rest : ℕ → Line} where
-  on-wide : {x : Wide} → WideIn x → ((n : ℕ) → n < 2 ^ 16 → LineIn (rest n)) → LineIn (onWide x rest)
+module _ {b : Before} {rest : ℕ → Line} where
+  on-wide : {x : Wide} → WideIn x → ((n : ℕ) → n < 2 ^ 16 → LineIn b (rest n)) → LineIn b (onWide x rest)
   on-wide (is n h) k = k n h
   on-wide wrong k = wrong
 
-  on-narrow : {x : Narrow} → NarrowIn x → ((n : ℕ) → n < 2 ^ 8 → LineIn (rest n)) → LineIn (onNarrow x rest)
+  on-narrow : {x : Narrow} → NarrowIn x → ((n : ℕ) → n < 2 ^ 8 → LineIn b (rest n)) → LineIn b (onNarrow x rest)
   on-narrow (is n h) k = k n h
   on-narrow wrong k = wrong
 
-  on-any : (x : Narrow) → ((n : ℕ) → LineIn (rest n)) → LineIn (onNarrow x rest)
+  on-any : (x : Narrow) → ((n : ℕ) → LineIn b (rest n)) → LineIn b (onNarrow x rest)
   on-any (narrow.Is n) k = k n
   on-any (narrow.Wrong f) k = wrong
 
 module _ (line : List ℕ) (w : Word) where
   -- a word that is left over is a fault
-  end : {whole : Line} → LineIn whole → LineIn (ended whole line w)
+  end : {b : Before} {whole : Line} → LineIn b whole → LineIn b (ended whole line w)
   unfolding ended
-  end h = either LineIn (missing (next line w)) h wrong
+  end {b} h = either (LineIn b) (missing (next line w)) h wrong
 
 -- the words of each call, from the last back
 module _ (t : Time) (line : List ℕ) where
-  oscillator-in : (mode : ℕ) (modul : Bool) (w : Word) → mode < 2 ^ 8 → LineIn (oscillatorLine t mode modul line w)
+  abbrev In : Line → Type 0
+  In = LineIn (before.At t)
+
+  oscillator-in : (mode : ℕ) (modul : Bool) (w : Word) → mode < 2 ^ 8 → In (oscillatorLine t mode modul line w)
   unfolding oscillatorLine
   oscillator-in mode modul w h = on-any (oscillatorIn line (next line w)) (λ o. end line (next line w) (call h))
 
-  module-in : (mode : ℕ) (w : Word) → mode < 2 ^ 8 → LineIn (moduleLine t mode line w)
+  module-in : (mode : ℕ) (w : Word) → mode < 2 ^ 8 → In (moduleLine t mode line w)
   unfolding moduleLine
   module-in mode w h = on-any (moduleIn line (next line w)) (λ p. oscillator-in mode (eqb p 1) (next line w) h)
 
-  cell-in : (a : ℕ) (w : Word) → LineIn (cellLine t a line w)
+  cell-in : (a : ℕ) (w : Word) → In (cellLine t a line w)
   unfolding cellLine
-  cell-in a w = either LineIn (missing (next line w)) look (on-any (bitIn line (next line w)) (λ b. end line (next line w) look))
+  cell-in a w = either In (missing (next line w)) look (on-any (bitIn line (next line w)) (λ b. end line (next line w) look))
 
-  value-line : (r : ℕ) (w : Word) → r < 2 ^ 16 → LineIn (valueLine t r line w)
+  value-line : (r : ℕ) (w : Word) → r < 2 ^ 16 → In (valueLine t r line w)
   unfolding valueLine
   value-line r w h = on-narrow (value-in line (next line w) r) (λ v k. end line (next line w) (call (h, k)))
 
-  byte-line : (a : ℕ) (w : Word) → a < 2 ^ 16 → LineIn (byteLine t a line w)
+  byte-line : (a : ℕ) (w : Word) → a < 2 ^ 16 → In (byteLine t a line w)
   unfolding byteLine
   byte-line a w h = on-narrow (byte-in line (next line w)) (λ v k. end line (next line w) (call (h, k)))
 
-  for-in : (k : Kind) (w : Word) → LineIn (lineFor k t line w)
+  for-in : (k : Kind) (w : Word) → In (lineFor k t line w)
   unfolding lineFor writeLine dataLine readLine wordLine environmentLine lookLine
   for-in kind.Write w = on-wide (register-in line (next line w)) (λ r h. value-line r (next line w) h)
   for-in kind.Data w = on-wide (address-in line (next line w) _ _) (λ a h. byte-line a (next line w) h)
@@ -252,15 +260,41 @@ module _ (t : Time) (line : List ℕ) where
   for-in kind.PowerOff w = end line w (call tt)
   for-in kind.Environment w = on-narrow (mode-in line (next line w)) (λ m h. module-in m (next line w) h)
   for-in kind.Look w =
-      either LineIn (missing (next line w)) look (on-wide (address-in line (next line w) _ _) (λ a h. cell-in a (next line w)))
+      either In (missing (next line w)) look (on-wide (address-in line (next line w) _ _) (λ a h. cell-in a (next line w)))
   for-in kind.Unknown w = wrong
 
-timed-in : (line : List ℕ) (w : Word) (m : Moment) → LineIn (timedLine line w m)
+timed-in : (b : Before) (line : List ℕ) (w : Word) (m : Moment) → LineIn (readOr b m) (timedLine line w m)
 unfolding callLine
-timed-in line w (moment.At t) = either LineIn (missing (next line w)) wrong (for-in t line (callNamed (bytesOf line (next line w))) (next line w))
-timed-in line w (moment.Wrong why) = wrong
+timed-in b line w (moment.At t) =
+    either (LineIn (before.At t)) (missing (next line w)) wrong (for-in t line (callNamed (bytesOf line (next line w))) (next line w))
+timed-in b line w (moment.Wrong why) = wrong
 
-pub line-in : (b : Before) (line : List ℕ) → LineIn (lineOf b line)
-unfolding lineOf
-line-in b line =
-    let w = wordAt line 0 in either LineIn (missing w) nothing (timed-in line w (momentOf b (bytesOf line w)))
+pub line-in : (b : Before) (line : List ℕ) → LineIn (timeAfter b line) (lineOf b line)
+unfolding lineOf timeAfter
+line-in b line = let w = wordAt line 0 in by (missing w) (timed-in b line w (momentOf b (bytesOf line w)))
+  where
+    by : (t : Bool) {after : Before} {l : Line} → LineIn after l → LineIn (cond t b after) (cond t Nothing l)
+    by true h = nothing
+    by false h = h
+
+-- ---- the time after a line
+
+-- a call is no other line, and its time is its own
+after-call : {b : Before} {l : Line} {t : Time} {q : Request} → LineIn b l → l ≡ Call t q → b ≡ before.At t
+after-call nothing e = cc
+after-call (call h) e = cc
+after-call look e = cc
+after-call wrong e = cc
+
+after-look : {b : Before} {l : Line} {t : Time} {x : Looking} → LineIn b l → l ≡ Look t x → b ≡ before.At t
+after-look nothing e = cc
+after-look (call h) e = cc
+after-look look e = cc
+after-look wrong e = cc
+
+pub times : Times
+times =
+    record {
+      after-call = λ b line t q e. after-call (line-in b line) e;
+      after-look = λ b line t l e. after-look (line-in b line) e;
+    }

@@ -1,15 +1,23 @@
--- The claim about the lines of a history: the replay reads, and runs, the calls that the text asks for, in its order.
+-- The claims about the lines of a history: the replay reads, and runs, the calls that the text asks for, in its order; and after a
+-- call or a look a `+` counts from its time.
 -- Assumes nothing.
 use Prim.Native.Nat.{ℕ, zero, suc, _+_, _*_, _≤_}
 use mathlib.Core.Path.{_≡_}
 use mathlib.Core.List.{List, [], _∷_, _++_, map}
 use lib.ListN.{length, take, drop}
 use lib.Seq.{sets}
+use Rattle.time.specs.declared.Time.{Time}
+use Rattle.lent.specs.declared.Request.{Request}
 use Rattle.lent.specs.Memory.{Memory}
 use Rattle.ledger.specs.Lists.{Asked}
-use Rattle.replay.specs.Calls.{callAt}
-use Rattle.replay.specs.Replaying.{asks}
-use Rattle.history.specs.History.{Asking, callsIn, numbersOf, Waiting, takenAll}
+use Rattle.moments.specs.declared.Before.{Before}
+use Rattle.moments.specs.declared.Before.the-variants as before
+use Rattle.grammar.specs.declared.Looking.{Looking}
+use Rattle.grammar.specs.declared.Line.the-variants.{Call, Look}
+use Rattle.grammar.specs.Grammar.{lineOf}
+use Rattle.listing.specs.Calls.{callAt}
+use Rattle.listing.specs.Replaying.{asks}
+use Rattle.history.specs.History.{Asking, timeAfter, callsIn, numbersOf, Waiting, takenAll}
 
 -- a call of the replay's, whatever event words it is lent
 abbrev pub asking : Asked → Asking
@@ -37,3 +45,8 @@ pub record Kept (asked : List Asking) (s left : Waiting) : Type 0 where
 pub record Histories : Type 0 where
   pub of-every-text : (lines : List (List ℕ)) (s : Waiting) → 3 * (s .count + length (callsIn (s .before) lines)) ≤ length (s .calls)
       → Kept (callsIn (s .before) lines) s (takenAll lines s)
+
+-- after a line that is a call or a look, a `+` counts from its time
+pub record Times : Type 0 where
+  pub after-call : (b : Before) (line : List ℕ) (t : Time) (q : Request) → lineOf b line ≡ Call t q → timeAfter b line ≡ before.At t
+  pub after-look : (b : Before) (line : List ℕ) (t : Time) (l : Looking) → lineOf b line ≡ Look t l → timeAfter b line ≡ before.At t

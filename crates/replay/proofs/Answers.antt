@@ -2,18 +2,16 @@
 use mathlib.Core.Path.{_≡_, refl, sym, ap, _∙_}
 use mathlib.Core.Bool.{Bool, true, false, cond}
 use mathlib.Core.List.{List}
-use Prim.Native.Nat.{ℕ, suc, _+_, _-_, _*_, _/_, _≤_, _<_}
+use Prim.Native.Nat.{ℕ, _-_, _*_, _/_, _≤_}
 use native.Mathlib.Omega.{arith}
-use borrow.Author.Tests.{ltb-true, ltb-false}
+use borrow.Author.Tests.{ltb-true}
 use lib.Dec.{ltb}
-use lib.ListN.{length}
 use Rattle.flash.specs.declared.Flash.{Flash}
 use Rattle.layout.specs.Layout.{encoded, decoded}
 use Rattle.lent.specs.Memory.{Memory, chipIn, memoryOf}
-use Rattle.lent.specs.Asked.{Outcome}
-use Rattle.replay.specs.Replaying.{endIn, idle, asks, asksAfter, Replays}
-use Rattle.replay.specs.Held.{chip, leaves, ended}
-use Rattle.replay.proofs.Going.{ended-end, replays}
+use Rattle.listing.specs.Replaying.{endIn, idle, asksAfter, Replays}
+use Rattle.listing.specs.Held.{chip, leaves, ended}
+use Rattle.listing.proofs.Going.{ended-end, replays}
 
 pub end-inside : (to words : ℕ) → 3 * endIn to words ≤ words
 end-inside to words = by (ltb to (words / 3)) (λ h. omega (arith, ltb-true to (words / 3) h))

@@ -1,6 +1,1 @@
 pub mod Answers
-pub mod Going
-pub mod Holding
-pub mod Lights
-pub mod Numbers
-pub mod Steps

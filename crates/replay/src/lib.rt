@@ -1,30 +1,11 @@
 // The replay of a list of calls on lent memory: the record is read and written once, and the calls run on the state by value.
-pub mod light;
-pub mod packing;
-pub mod running;
-pub mod writing;
-
 ghost use mathlib.Core.Path.{_≡_};
-ghost use Rattle.replay.specs.Replaying.{endIn, asks, Replays};
-use crate::running::run;
+ghost use Rattle.listing.specs.Replaying.{endIn, asks, Replays};
 use checks::accepts;
 use coding::read;
 use coding::write;
 use lent::checking::sizes_misfit;
-use time::Time;
-
-// The registers that a register write can change, but for a pending sense.
-pub struct Settings {
-    pub control: u8,
-    pub erase: u8,
-    pub enabled: bool,
-    pub power_down_disabled: bool,
-    pub swe_ready: Time,
-    pub program_ready: Time,
-    pub erase_ready: Time,
-    pub recovery: Time,
-    pub verify_ready: Time,
-}
+use running::run;
 
 // The first call that is not done, and what the last one said: its refusal's number, its value, how many event words it gave.
 pub struct Replayed {

@@ -4,13 +4,18 @@ use crate::{
     state::{State, LONG, PART, SHORT},
     timing::{self, Times},
 };
-use doqtarbu::register::{FLMCR2, FLPWCR};
-use std::{hint::black_box, time::Instant};
+use doqtarbu::{
+    register::{EBR1, FLMCR1, FLMCR2, FLPWCR, PSU, SWE},
+    Call, Instant,
+};
+use std::{hint::black_box, time::Instant as Clock};
 
 #[derive(Clone, Copy, PartialEq)]
 pub enum Operation {
     /// A write to a register that keeps a bit and opens no pulse.
     WriteRegister,
+    /// A million writes to registers that open no pulse, out of a list in memory.
+    Replay,
     /// A data write that is latched.
     Latch,
     /// A byte read that is served from the array.
@@ -45,6 +50,9 @@ pub struct Line {
     pub growth: Option<(&'static str, usize)>,
 }
 
+/// The writes of a replay.
+const REPLAYED: usize = 1_000_000;
+
 /// Addresses inside block 4, and none twice in a page.
 fn address(i: usize) -> u16 {
     0x1000 + (i * 0xe03) as u16
@@ -61,7 +69,7 @@ impl Operation {
     }
 
     /// Done as often as a batch has it. The answer is made of what was read, for both sides to agree on.
-    fn run(self, side: &mut impl Side, now: u128, snapshot: &[u8]) -> u64 {
+    fn run(self, side: &mut impl Side, now: u128, given: &Given) -> u64 {
         let mut sum = 0u64;
         let mut add = |value: u64| sum = sum.rotate_left(7) ^ value;
         for i in 0..self.batch() {
@@ -71,6 +79,7 @@ impl Operation {
                     black_box((i % 2 * 0x80) as u8),
                     now + i as u128,
                 ),
+                Operation::Replay => side.replay(black_box(&given.writes)),
                 Operation::Latch => {
                     side.write8(black_box(i as u16), black_box(i as u8), now + i as u128)
                 }
@@ -88,7 +97,7 @@ impl Operation {
                 }
                 Operation::Image => side.image(black_box(now + PART)),
                 Operation::WriteSnapshot => side.write_snapshot(),
-                Operation::ReadSnapshot => side.read_snapshot(black_box(snapshot), now),
+                Operation::ReadSnapshot => side.read_snapshot(black_box(&given.snapshot), now),
             }
         }
         sum
@@ -99,6 +108,36 @@ impl Operation {
         use Operation::{BlankPage, CellCharge, Image, Peek, Settle};
         matches!(self, Settle | Peek | CellCharge | BlankPage | Image)
     }
+}
+
+/// What the calls of a line are given.
+struct Given {
+    /// A snapshot to read.
+    snapshot: Vec<u8>,
+    /// Writes to replay.
+    writes: Vec<u64>,
+}
+
+/// Writes as a program has them that sets a pulse up and gives it up again, each a microsecond after the last.
+fn writes(start: u128) -> Vec<u64> {
+    const ROUND: [(u16, u8); 8] = [
+        (FLMCR1, SWE),
+        (EBR1, 0x10),
+        (FLPWCR, 0x80),
+        (FLMCR1, SWE | PSU),
+        (FLMCR1, SWE),
+        (FLPWCR, 0),
+        (EBR1, 0),
+        (FLMCR1, 0),
+    ];
+    let mut at = start;
+    let mut list = Vec::with_capacity(3 * REPLAYED);
+    for i in 0..REPLAYED {
+        at += Instant::from_micros(1).0;
+        let (address, value) = ROUND[i % ROUND.len()];
+        list.extend(replay::words(Call::WriteRegister { address, value }, Instant(at)));
+    }
+    list
 }
 
 /// A side in the middle of a line.
@@ -119,15 +158,20 @@ impl<S: Side> Runner<S> {
     }
 
     /// One batch, of which only what the line is about is timed: nanoseconds of a call.
-    fn round(&mut self, line: &Line, snapshot: &[u8]) -> f64 {
+    fn round(&mut self, line: &Line, given: &Given) -> f64 {
         match line.operation {
-            Operation::SettleFirst => self.now = line.state.prepare(&mut self.side),
+            Operation::SettleFirst | Operation::Replay => {
+                self.now = line.state.prepare(&mut self.side)
+            }
             Operation::ReadSnapshot => self.side.let_go(),
             _ => self.now += SHORT,
         }
-        let start = Instant::now();
-        let sum = black_box(line.operation.run(&mut self.side, black_box(self.now), snapshot));
+        let start = Clock::now();
+        let sum = black_box(line.operation.run(&mut self.side, black_box(self.now), given));
         let time = start.elapsed();
+        if line.operation == Operation::Replay {
+            self.now += Instant::from_micros(REPLAYED as u64).0;
+        }
         self.sum = self.sum.rotate_left(1) ^ sum;
         time.as_nanos() as f64 / line.operation.batch() as f64
     }
@@ -140,16 +184,22 @@ impl Line {
         let mut old = Runner::new(Old::new(), self);
         port.side.write_snapshot();
         let snapshot = port.side.last_snapshot().to_vec();
+        let writes = match self.operation {
+            Operation::Replay => writes(port.now),
+            _ => Vec::new(),
+        };
+        let given = Given { snapshot, writes };
+        let snapshot = &given.snapshot;
         let mut copy = vec![0u8; snapshot.len()];
         let mut copy_round = || {
-            let start = Instant::now();
-            black_box(&mut copy[..]).copy_from_slice(black_box(&snapshot));
+            let start = Clock::now();
+            black_box(&mut copy[..]).copy_from_slice(black_box(snapshot));
             start.elapsed().as_nanos() as f64
         };
         let copied = matches!(self.operation, Operation::WriteSnapshot | Operation::ReadSnapshot);
         let times = timing::smallest(
-            || port.round(self, &snapshot),
-            || old.round(self, &snapshot),
+            || port.round(self, &given),
+            || old.round(self, &given),
             || if copied { copy_round() } else { 0.0 },
         );
         self.agree(&mut port, &mut old)?;

@@ -6,6 +6,8 @@ use crate::{
 
 /// One light call, at most.
 const LIGHT: Goal = Goal::Nanos(1_000.0);
+/// Calls by value, the record read and written once.
+const REPLAY: Goal = Goal::Ratio(1.0);
 const BLOCK: Goal = Goal::Ratio(0.5);
 const PAGE: Goal = Goal::Ratio(0.7);
 const ONE_BYTE: Goal = Goal::Ratio(0.01);
@@ -33,6 +35,12 @@ fn count(pages: usize) -> String {
 }
 
 fn light() -> Vec<Line> {
+    let replay = line(
+        "replay of a million register writes without pulse",
+        State::Idle(0),
+        Operation::Replay,
+        REPLAY,
+    );
     [0, 384]
         .into_iter()
         .flat_map(|pages| {
@@ -46,6 +54,7 @@ fn light() -> Vec<Line> {
                 light("byte read, served", Operation::Read8),
             ]
         })
+        .chain([replay])
         .collect()
 }
 

@@ -10,6 +10,8 @@ pub trait Side {
     fn write_register(&mut self, address: u16, value: u8, at: u128);
     fn write8(&mut self, address: u16, value: u8, at: u128);
     fn read8(&mut self, address: u16, at: u128) -> u8;
+    /// Register writes, three numbers each as `replay` has them.
+    fn replay(&mut self, writes: &[u64]);
     fn peek(&self, address: u16, at: u128) -> u8;
     /// The charge of a cell; the original has no such look, and answers by the one that is nearest.
     fn cell_charge(&self, address: u16, bit: u8, at: u128) -> u64;
@@ -64,6 +66,16 @@ impl Side for Port {
 
     fn read8(&mut self, address: u16, at: u128) -> u8 {
         answered(self.flash.read8(address, Instant(at)))
+    }
+
+    fn replay(&mut self, writes: &[u64]) {
+        let calls = writes.len() / 3;
+        let replayed = replay::replay(self.flash.lent_mut(), writes, 0, calls);
+        assert_eq!(
+            (replayed.done, replayed.number),
+            (calls, 0),
+            "every write of a line is accepted"
+        );
     }
 
     fn peek(&self, address: u16, at: u128) -> u8 {
@@ -182,6 +194,14 @@ impl Side for Old {
     fn read8(&mut self, address: u16, at: u128) -> u8 {
         let (flash, words) = self.parts();
         flash.read8(address, at, words).expect(TAKEN)
+    }
+
+    fn replay(&mut self, writes: &[u64]) {
+        let (flash, words) = self.parts();
+        for write in writes.chunks_exact(3) {
+            let at = u128::from(write[1]) << 64 | u128::from(write[2]);
+            flash.write_register((write[0] >> 8) as u16, write[0] as u8, at, words).expect(TAKEN);
+        }
     }
 
     fn peek(&self, address: u16, at: u128) -> u8 {

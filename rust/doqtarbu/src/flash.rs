@@ -180,4 +180,11 @@ impl Flash {
     pub fn lent(&self) -> &Lent {
         &self.lent
     }
+
+    /// The same for another archive of the library to work on. The event words of the last call are forgotten. What the library did
+    /// not write there is not checked: the next call may refuse it.
+    pub fn lent_mut(&mut self) -> &mut Lent {
+        self.count = 0;
+        &mut self.lent
+    }
 }

@@ -1,0 +1,5 @@
+pub mod Claimed
+pub mod Going
+pub mod Holding
+pub mod Numbers
+pub mod Steps

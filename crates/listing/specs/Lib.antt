@@ -1,0 +1,4 @@
+pub mod Calls
+pub mod Replaying
+pub mod Held
+pub mod Claim

@@ -1,4 +1,0 @@
-pub mod Calls
-pub mod Replaying
-pub mod Held
-pub mod Light
