@@ -8,21 +8,20 @@ use native.Mathlib.Nat.{div-lt-iff-lt-mul}
 use native.Mathlib.Omega.{arith}
 use borrow.Author.Tests.{ltb-true}
 use lib.Dec.{eqb, ltb}
-use lib.ListN.{length, getD, set, replicate}
+use lib.ListN.{set, replicate}
 use Rattle.cell.specs.Cell.{pages}
 use Rattle.control.specs.Blocks.{eraseRange}
 use Rattle.control.specs.declared.Range.{Range}
 use Rattle.digits.specs.Digits.{hexIn}
 use Rattle.digits.specs.declared.Number.{Number}
 use Rattle.digits.specs.declared.Number.the-variants as number
-use Rattle.verdict.specs.Blocks.{blockRange, pagesTouched}
+use Rattle.verdict.specs.Blocks.{pagesTouched}
 use Rattle.words.specs.Text.{placeOf}
 use Rattle.words.specs.declared.Word.{Word}
 use Rattle.options.specs.Arguments.{bytesOf, helpPlace, imagePlace, restorePlace, picturePlace, snapshotPlace, blockPlace, fromPlace, toPlace, historyPlace, places, names, wantsWord, valueBelow, fits, nowhere, unsaid, saidOf, taken, dashed, plain, option, named, valued, stepAt}
 use Rattle.options.specs.Options.{instead, refused, blockIn, addressIn, pagesAsked, accepted, ranged, whole, ended}
 use Rattle.options.specs.Inside.{Lies, SaidLies, StageLies, OptionsLie}
 use Rattle.options.specs.declared.Given.{Given}
-use Rattle.options.specs.declared.Options.{Options}
 use Rattle.options.specs.declared.Said.{Said}
 use Rattle.options.specs.declared.Stage.{Stage}
 use Rattle.options.specs.declared.Stage.the-variants.{Open, Wants, Helped, Wrong}

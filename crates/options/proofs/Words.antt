@@ -3,7 +3,7 @@
 use Prim.Native.Nat.{ℕ, suc, _+_, _≤_, _<_}
 use mathlib.Core.Bool.{Bool, true, false, cond}
 use mathlib.Core.List.{List, [], _∷_}
-use mathlib.Core.Path.{_≡_, refl}
+use mathlib.Core.Path.{_≡_}
 use native.Mathlib.Numerals.{add-one}
 use native.Mathlib.Omega.{arith}
 use borrow.Author.Tests.{eq-eqb, ne-eqb}
@@ -12,7 +12,6 @@ use lib.ListN.{length, getD, drop, drop-of-length-le}
 use lib.Seq.{drop-cons, slice-cons, slice-empty}
 use Rattle.bytes.specs.Bytes.{slice}
 use Rattle.words.specs.Text.{spells, placeOf}
-use Rattle.words.specs.declared.Word.{Word}
 use Rattle.options.specs.Arguments.{word, dashed, wordsFrom, takeAll, stepAt}
 use Rattle.options.specs.declared.Given.{Given}
 

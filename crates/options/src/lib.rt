@@ -1,5 +1,4 @@
 // The arguments of the program: what they ask for, or what is wrong with them.
-ghost use mathlib.Core.Path.{_≡_};
 ghost use Rattle.options.specs.Inside.{Answer};
 use moments::Before;
 use words::Word;

@@ -1,9 +1,9 @@
 // What is taken from the arguments, word by word.
 ghost use mathlib.Core.Path.{_≡_};
-ghost use Prim.Native.Nat.{_≤_, _<_};
+ghost use Prim.Native.Nat.{_<_};
 ghost use Rattle.words.specs.Text.{placeOf};
-ghost use Rattle.options.specs.Arguments.{bytesOf, names, places, taken, dashed, plain, option, named, valued, stepAt, givenBy};
-ghost use Rattle.options.specs.Inside.{Lies, SaidLies, StageLies, AllTaken};
+ghost use Rattle.options.specs.Arguments.{bytesOf, names, places, taken, dashed, plain, option, named, valued, stepAt};
+ghost use Rattle.options.specs.Inside.{Lies, StageLies, AllTaken};
 use crate::Given;
 use crate::Said;
 use crate::Stage;

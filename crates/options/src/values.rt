@@ -1,7 +1,6 @@
 // The words of options: which words an option can have, and what they stand for.
 ghost use mathlib.Core.Path.{_≡_};
-ghost use Rattle.digits.specs.Digits.{hexIn};
-ghost use Rattle.options.specs.Arguments.{bytesOf, isBelow, valueBelow, blockBound, addressBound, isTime, fits, complaint};
+ghost use Rattle.options.specs.Arguments.{bytesOf, isBelow, valueBelow, isTime, fits, complaint};
 ghost use Rattle.options.specs.Inside.{Lies};
 ghost use Rattle.options.specs.Options.{timeIn, blockIn, addressIn};
 use crate::Said;
