@@ -12,22 +12,22 @@ pub fn help(out: &mut [u8], at: usize) -> usize
         b"usage: wipe [--image FILE | --restore FILE] [--block N | --from ADDR --to ADDR] [--at TIME]\n\
           \x20           [--events] [--map] [--picture FILE] [--snapshot FILE] [--go-on] HISTORY\n\
           \n\
-          Makes the calls of a history on the model of the flash, and reports whether anything is legible.\n\
+          Runs the calls of a history on the model of the flash, and says whether anything is legible.\n\
           \n\
-          \x20 --image FILE     begin with this firmware, 49152 bytes\n\
+          \x20 --image FILE     begin with this image, 49152 bytes; without it every byte is FF\n\
           \x20 --restore FILE   begin with this snapshot\n\
-          \x20 --block N        report on block N alone, 0 to 5\n\
-          \x20 --from ADDR      report on the pages from this address on, four hexadecimal digits below C000\n\
-          \x20 --to ADDR        report on the pages up to this address\n\
-          \x20 --at TIME        report on this time, and not on that of the last call\n\
-          \x20 --events         print each byte that changes and each pulse that ends\n\
-          \x20 --map            print the address of each legible page\n\
-          \x20 --picture FILE   write a picture to FILE, a dot for each cell\n\
-          \x20 --snapshot FILE  write a snapshot to FILE\n\
-          \x20 --go-on          go on after a wrong line and after a refused call\n\
+          \x20 --block N        judge block N alone, 0 to 5\n\
+          \x20 --from ADDR      judge the pages from this address on, four hexadecimal digits below C000,\n\
+          \x20 --to ADDR        up to this address\n\
+          \x20 --at TIME        judge at this time, not at that of the last call\n\
+          \x20 --events         tell each byte that changes, each pulse that ends, and what each read gives\n\
+          \x20 --map            draw the 384 pages as a map\n\
+          \x20 --picture FILE   write a picture of all cells by charge, 768 by 512, in the format PGM\n\
+          \x20 --snapshot FILE  write the state that is reached\n\
+          \x20 --go-on          leave out what can't be taken, and go on\n\
           \n\
-          Printed are the answers of reads and looks, how many calls were made and refused, for each block\n\
-          its pulses and its pages, and the verdict: blank, or legible and how many pages.\n\
+          It prints what the looks of the history see, how many calls were made and refused, for each block\n\
+          the pulses that ended and the pages that are blank and legible, and last the verdict.\n\
           \n\
           Exit status of ./wipe: 0 blank, 1 legible, 2 error.\n\
           How a history is written: docs/HISTORY-FORMAT.md.\n",

@@ -5,7 +5,7 @@ use crate::coverage::Coverage;
 use crate::crc::crc32;
 use crate::row::{Row, ROW};
 use crate::snapshot;
-use original::{event_word, refusal_number, Error, Event, Mode, Original, Output};
+use original::{event_word, refusal_number, Error, Event, Original};
 
 const REGISTERS: [u16; 5] = [0xf020, 0xf021, 0xf022, 0xf023, 0xf02b];
 const NAME: usize = 62;
@@ -76,17 +76,11 @@ impl List {
         self.push(row);
     }
 
-    fn snapshot(chip: &Original) -> Vec<u8> {
-        let mut bytes = Vec::new();
-        chip.write_snapshot(&mut bytes);
-        bytes
-    }
-
     /// Ends a row with what the chip is left in, at the row's time: registers, `normal`, `validate`, image, snapshot.
     fn left(&mut self, row: Row) {
         let chip = &self.chip;
         let flags = [u8::from(chip.normal(self.now)), u8::from(chip.validate(self.now).is_ok())];
-        let snapshot = Self::snapshot(chip);
+        let snapshot = snapshot::of(chip);
         let row = row
             .put(36, &REGISTERS.map(|address| chip.register(address)))
             .put(41, &flags)
@@ -131,11 +125,11 @@ impl List {
 
     pub fn call(&mut self, call: Call) {
         let mut events: Vec<Event> = Vec::new();
-        let (row, value) = self.run(call, &mut events);
+        let value = call.run(&mut self.chip, self.now, &mut events);
         let words: Vec<u64> = events.iter().map(event_word).collect();
         words.iter().for_each(|word| self.coverage.event(*word));
         let bytes: Vec<u8> = words.iter().flat_map(|word| word.to_le_bytes()).collect();
-        let row = row
+        let row = Self::asked(call)
             .put(6, &u16::try_from(words.len()).expect("a range and its end").to_le_bytes())
             .time(self.now)
             .put(24, &crc32(&bytes).to_le_bytes())
@@ -143,43 +137,19 @@ impl List {
         self.left(row);
     }
 
-    fn run(&mut self, call: Call, out: &mut dyn Output) -> (Row, u16) {
-        const ANSWERED: &str = "the original errs only at the end of time";
-        let (chip, now) = (&mut self.chip, self.now);
+    /// The row of a call, before its answer.
+    fn asked(call: Call) -> Row {
         match call {
-            Call::WriteRegister(address, value) => {
-                chip.write_register(address, value, now, out).expect(ANSWERED);
-                (Row::new(b'W').address(address).value(value), 0)
-            }
-            Call::Write8(address, value) => {
-                chip.write8(address, value, now, out).expect(ANSWERED);
-                (Row::new(b'D').address(address).value(value), 0)
-            }
-            Call::Read8(address) => {
-                let value = chip.read8(address, now, out).expect(ANSWERED);
-                (Row::new(b'B').address(address), u16::from(value))
-            }
-            Call::Read16(address) => {
-                let value = chip.read16(address, now, out).expect(ANSWERED);
-                (Row::new(b'H').address(address), value)
-            }
-            Call::Protect => {
-                chip.protect(now, out).expect(ANSWERED);
-                (Row::new(b'P'), 0)
-            }
-            Call::Reset => {
-                chip.reset(now, out);
-                (Row::new(b'R'), 0)
-            }
-            Call::PowerOff => {
-                chip.power_off(now, out);
-                (Row::new(b'O'), 0)
-            }
+            Call::WriteRegister(address, value) => Row::new(b'W').address(address).value(value),
+            Call::Write8(address, value) => Row::new(b'D').address(address).value(value),
+            Call::Read8(address) => Row::new(b'B').address(address),
+            Call::Read16(address) => Row::new(b'H').address(address),
+            Call::Protect => Row::new(b'P'),
+            Call::Reset => Row::new(b'R'),
+            Call::PowerOff => Row::new(b'O'),
             Call::Environment(number, module, oscillator) => {
-                let mode = Mode::from_number(number).expect("modes are 0 to 5");
-                chip.environment(mode, module, oscillator, now, out).expect(ANSWERED);
                 let flags = [u8::from(module), u8::from(oscillator)];
-                (Row::new(b'E').value(number).put(4, &flags), 0)
+                Row::new(b'E').value(number).put(4, &flags)
             }
         }
     }
@@ -191,13 +161,11 @@ impl List {
     }
 
     /// Byte, charge and blank page of an address and a bit at a time from `now` on. The original has no function for the last two: a
-    /// charge is the one that a reset then leaves in the snapshot, for a reset settles; a page is blank if the image has FF throughout.
+    /// charge is the one in the snapshot of a settled copy; a page is blank if the image has FF throughout.
     pub fn look(&mut self, address: u16, bit: u8, at: u128) {
         let image = self.chip.image(at);
         let page = &image[usize::from(address) / 128 * 128..][..128];
-        let mut settled = self.chip.clone();
-        settled.reset(at, &mut ());
-        let charge = snapshot::charge(&Self::snapshot(&settled), address, bit);
+        let charge = snapshot::charge(&snapshot::settled(&self.chip, at), address, bit);
         let seen = [self.chip.peek(address, at), u8::from(page.iter().all(|byte| *byte == 0xff))];
         let row = Row::new(b'L')
             .value(bit)
@@ -245,7 +213,7 @@ impl List {
 
     /// The snapshot of the chip as it is: what the last row that has an answer left in the buffer.
     pub fn saved(&self) -> Vec<u8> {
-        Self::snapshot(&self.chip)
+        snapshot::of(&self.chip)
     }
 
     /// A whole history.

@@ -5,16 +5,15 @@
 //!     cargo run --offline --release -p record -- ../crates/vectors
 #![forbid(unsafe_code)]
 
-mod call;
 mod coverage;
 mod crc;
 mod groups;
 mod list;
 mod moves;
 mod row;
-mod snapshot;
 
 use list::List;
+use record::{call, snapshot};
 use std::{env, fs, path::PathBuf, process::ExitCode};
 
 fn main() -> ExitCode {

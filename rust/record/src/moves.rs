@@ -1,5 +1,6 @@
 //! Moves that the groups share. Names are the manual's.
 use crate::call::Call;
+pub use crate::call::BLOCKS;
 use crate::list::List;
 
 pub const FLMCR1: u16 = 0xf020;
@@ -14,16 +15,6 @@ pub const EV: u8 = 8;
 pub const PV: u8 = 4;
 pub const E: u8 = 2;
 pub const P: u8 = 1;
-
-/// The erase register's blocks: its value, the first address and the one after the last.
-pub const BLOCKS: [(u8, u16, u16); 6] = [
-    (1, 0, 0x400),
-    (2, 0x400, 0x800),
-    (4, 0x800, 0xc00),
-    (8, 0xc00, 0x1000),
-    (16, 0x1000, 0x8000),
-    (32, 0x8000, 0xc000),
-];
 
 pub const fn micros(n: u64) -> u128 {
     ((n as u128) << 64) / 1_000_000

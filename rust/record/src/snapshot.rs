@@ -1,6 +1,7 @@
-//! Where the fields of a snapshot stand, by document 01 and the Borsh specification: to choose what to damage, and to take a charge from
-//! what the original wrote.
+//! Where the fields of a snapshot stand, by document 01 and the Borsh specification: to choose what to damage, and to take from what the
+//! original wrote the charges and the last settling, for which it has no function.
 use crate::call::ARRAY;
+use original::Original;
 
 pub const FULL: u64 = 12_912_720_851_596_686_100;
 pub const COUNT: usize = ARRAY;
@@ -31,6 +32,19 @@ pub const VERIFY_READY: usize = 235;
 pub const OPTION: usize = 251;
 pub const PENDING_ADDRESS: usize = 252;
 
+pub fn of(chip: &Original) -> Vec<u8> {
+    let mut bytes = Vec::new();
+    chip.write_snapshot(&mut bytes);
+    bytes
+}
+
+/// The snapshot of a copy that is reset at that time, for a reset settles.
+pub fn settled(chip: &Original, at: u128) -> Vec<u8> {
+    let mut copy = chip.clone();
+    copy.reset(at, &mut ());
+    of(&copy)
+}
+
 fn number(bytes: &[u8]) -> u64 {
     bytes.iter().rev().fold(0, |n, byte| n << 8 | u64::from(*byte))
 }
@@ -52,6 +66,12 @@ pub fn cell(slot: usize, cell: usize) -> usize {
 /// Where the fields after the charge pages begin.
 pub fn fields(snapshot: &[u8]) -> usize {
     page(pages(snapshot))
+}
+
+/// The time of the last settling.
+pub fn since(snapshot: &[u8]) -> u128 {
+    let time = &snapshot[fields(snapshot) + SINCE..][..16];
+    u128::from(number(&time[8..])) << 64 | u128::from(number(&time[..8]))
 }
 
 /// The charge of a cell: of a page that was never opened, what its stored bit stands for.
