@@ -45,8 +45,9 @@ const POINT: u8 = 46;
 const PLUS: u8 = 43;
 
 const MICROS: u64 = 1_000_000;
+
 // One microsecond in raw units.
-const MICROSECOND: u64 = 18446744073709;
+pub const MICROSECOND: u64 = 18446744073709;
 
 fn judged(n: Number) -> Part
     ensures { λ r. ⌜ r ≡ judged n ⌝ }

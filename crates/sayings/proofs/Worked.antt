@@ -1,4 +1,4 @@
--- What is said of some events, as it is printed: a time with six decimals, whole seconds, and a raw fraction.
+-- What is said of some events, as it is printed: a time with six decimals, whole seconds, and a time between microseconds.
 -- Assumes nothing.
 use mathlib.Core.Path.{_≡_, refl}
 use Prim.Native.Nat.{_+_, _*_, _^_}
@@ -15,6 +15,6 @@ completed : eventSaid 12 0 (2 * 2 ^ 32 + 0x80 * 2 ^ 16 + 0x80) ≡ bytes "at 12:
 unfolding exactOf micros duration digits filled
 completed = refl
 
-interrupted : eventSaid 0 345 (3 * 2 ^ 32 + 0x8000 * 2 ^ 16 + 0x4000) ≡ bytes "at 0:345: the pulse over 8000 to BFFF is interrupted\n"
+interrupted : eventSaid 0 345 (3 * 2 ^ 32 + 0x8000 * 2 ^ 16 + 0x4000) ≡ bytes "at 0.000000 (0:345): the pulse over 8000 to BFFF is interrupted\n"
 unfolding exactOf micros duration digits filled
 interrupted = refl

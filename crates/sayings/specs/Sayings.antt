@@ -1,6 +1,6 @@
--- A time as a history may write it, and an event in words. Each is a template as it is printed.
+-- A time in seconds, exactly as a history may write it, and an event in words. Each is a template as it is printed.
 -- Assumes nothing.
-use Prim.Native.Nat.{ℕ, _+_, _-_}
+use Prim.Native.Nat.{ℕ, _+_, _-_, _/_, min}
 use mathlib.Core.Bool.{Bool, cond}
 use mathlib.Core.List.{List, [], _∷_, _++_}
 use lib.Dec.{eqb}
@@ -9,19 +9,23 @@ use Rattle.registers.specs.declared.Ending.the-variants.{Completed}
 use Rattle.ledger.specs.Words.{kindIn, addressIn, valueIn, isByte}
 use Rattle.moments.specs.declared.Exact.{Exact}
 use Rattle.moments.specs.declared.Exact.the-variants.{Micros, Raw}
-use Rattle.moments.specs.Moments.{exactOf}
+use Rattle.moments.specs.Moments.{microsecond, exactOf}
 use Rattle.text.specs.Text.{said, either}
 
--- ---- times, as a history may write them
+-- ---- times
 
--- a fraction that is not 0: six decimals where it is that of some microseconds, else the raw number
-abbrev pub fractionSaid : Exact → ℕ → List ℕ
-fractionSaid (Micros n) fraction = said ".^" (n ∷ [])
-fractionSaid Raw fraction = said ":%" (fraction ∷ [])
+-- the microsecond of a second in which a fraction lies
+abbrev pub microsecondIn : ℕ → ℕ
+microsecondIn fraction = min (fraction / microsecond) 999999
+
+-- A fraction that is not 0: six decimals. Where it is not exactly that of some microseconds, the whole time follows as SECONDS:FRACTION.
+abbrev pub fractionSaid : Exact → ℕ → ℕ → List ℕ
+fractionSaid (Micros n) seconds fraction = said ".^" (n ∷ [])
+fractionSaid Raw seconds fraction = said ".^ (%:%)" (microsecondIn fraction ∷ seconds ∷ fraction ∷ [])
 
 abbrev pub instantSaid : ℕ → ℕ → List ℕ
 instantSaid seconds fraction =
-    said "%" (seconds ∷ []) ++ cond (eqb fraction 0) [] (fractionSaid (exactOf fraction) fraction)
+    said "%" (seconds ∷ []) ++ cond (eqb fraction 0) [] (fractionSaid (exactOf fraction) seconds fraction)
 
 -- ---- events
 

@@ -25,6 +25,9 @@ enum-told c = search needs
 slice-aggregate-say-3 : tie.Need-slice-aggregate-say-3
 slice-aggregate-say-3 c = search needs
 
+microsecond-in-requires : tie.Need-microsecond-in-requires
+microsecond-in-requires c κs = search needs
+
 slice-aggregate-say-4 : tie.Need-slice-aggregate-say-4
 slice-aggregate-say-4 c = search needs
 
@@ -46,8 +49,9 @@ same-length-2 c = search needs
 returns-2 : tie.Need-returns-2
 returns-2 c =
     let said = c .before .before in
-    let told = said .before .before .before .before in
-    rw (← told .before .before .micros-of .ensures, told .enum-told .given .1) (said .say2 .ensures)
+    let known = said .before .before in
+    let told = known .before .before .before in
+    rw (← told .before .before .micros-of .ensures, told .enum-told .given .1, ← known .microsecond-in .ensures) (said .say2 .ensures)
 
 pub put-fraction-spec : {M : Type 1} → statement M
 put-fraction-spec =
@@ -60,6 +64,7 @@ put-fraction-spec =
     say-requires
     enum-told
     slice-aggregate-say-3
+    microsecond-in-requires
     slice-aggregate-say-4
     say-requires-2
     same-length

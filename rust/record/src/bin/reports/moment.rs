@@ -42,7 +42,7 @@ pub fn read(text: &str) -> Result<u128, Reason> {
     Ok(u128::from(seconds) << 64 | u128::from(fraction))
 }
 
-/// In microseconds where that is exact, else in units.
+/// In seconds and microseconds; where that is not exact, in units too.
 pub fn written(at: u128) -> String {
     let (seconds, fraction) = (at >> 64, at as u64);
     // The least number of microseconds that has as many units or more: no other one can have exactly as many.
@@ -50,6 +50,10 @@ pub fn written(at: u128) -> String {
     match fraction {
         0 => format!("{seconds}"),
         _ if micros < 1_000_000 && units(micros) == fraction => format!("{seconds}.{micros:06}"),
-        _ => format!("{seconds}:{fraction}"),
+        _ => {
+            // A microsecond is 18446744073709 units: the one in which the time lies.
+            let within = (fraction / 18_446_744_073_709).min(999_999);
+            format!("{seconds}.{within:06} ({seconds}:{fraction})")
+        }
     }
 }
