@@ -1,4 +1,4 @@
--- Each change of one field is one: the field is what it was set to, the others stay, and the last change counts.
+-- Each change of one field: the field is what it was set to, its own value changes nothing, and the last change counts.
 -- Assumes nothing.
 use mathlib.Core.Path.{refl}
 use Rattle.registers.specs.declared.Registers.{Registers}
