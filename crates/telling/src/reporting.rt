@@ -11,7 +11,7 @@ use verdict::blocks::block_range;
 use verdict::legible::legible;
 use verdict::legible::legible_pages;
 
-// How many of some pages are legible; none that lie past the image.
+// How many of some pages are legible. Where they do not lie in the image all of them count, so that nothing is called blank unseen.
 pub fn legible_among(image: &[u8], first: usize, pages: usize) -> usize {
     if image.len() == FLASH_SIZE {
         if first <= PAGES {
@@ -20,7 +20,7 @@ pub fn legible_among(image: &[u8], first: usize, pages: usize) -> usize {
             }
         }
     }
-    0
+    pages
 }
 
 // The pulses of a block.
