@@ -14,7 +14,7 @@ use Rattle.cell.specs.Cell.{at}
 use Rattle.settle.proofs.Stored.{sets-append}
 use Rattle.lent.specs.Memory.{Memory}
 use Rattle.lent.specs.Asked.{Outcome}
-use Rattle.ledger.specs.Lists.{Numbers, asked}
+use Rattle.ledger.specs.Lists.{asked}
 use Rattle.moments.specs.declared.Before.{Before}
 use Rattle.grammar.specs.declared.Line.{Line}
 use Rattle.grammar.specs.Grammar.{lineOf}
@@ -22,7 +22,7 @@ use Rattle.listing.specs.Calls.{wordOf, callAt}
 use Rattle.listing.specs.Replaying.{stops, idle, asksAfter, endIn, asks}
 use Rattle.listing.proofs.Numbers.{word-back}
 use Rattle.history.specs.History.{Asking, callsOf, timeAfter, callsIn, numbersOf, Waiting, taken, takenAll}
-use Rattle.history.specs.Claim.{asking, readFrom, Histories}
+use Rattle.history.specs.Claim.{asking, InTypes, readFrom, Histories}
 use Rattle.history.proofs.Range.{LineIn, nothing, call, look, wrong, line-in}
 
 -- ---- numbers of calls
@@ -54,31 +54,26 @@ taken-calls (line ∷ lines) s =
 
 -- ---- what the replay reads
 
-InRange : List Asking → Type 0
-InRange [] = Unit {0}
-InRange (a ∷ rest) = Numbers (a .request) × InRange rest
+pub line-typed : {b : Before} {l : Line} (rest : List Asking) → LineIn b l → InTypes rest → InTypes (callsOf l ++ rest)
+line-typed rest nothing k = k
+line-typed rest (call h fits) k = (h, fits, k)
+line-typed rest look k = k
+line-typed rest wrong k = k
 
-line-range : {b : Before} {l : Line} (rest : List Asking) → LineIn b l → InRange rest → InRange (callsOf l ++ rest)
-unfolding InRange
-line-range rest nothing k = k
-line-range rest (call h) k = (h, k)
-line-range rest look k = k
-line-range rest wrong k = k
-
-calls-range : (b : Before) (lines : List (List ℕ)) → InRange (callsIn b lines)
-unfolding callsIn InRange
-calls-range b [] = tt
-calls-range b (line ∷ lines) = line-range _ (line-in b line) (calls-range (timeAfter b line) lines)
+calls-typed : (b : Before) (lines : List (List ℕ)) → InTypes (callsIn b lines)
+unfolding callsIn
+calls-typed b [] = tt
+calls-typed b (line ∷ lines) = line-typed _ (line-in b line) (calls-typed (timeAfter b line) lines)
 
 -- calls in range, whose numbers stand behind those of i calls
-read-back : (xs : List Asking) (before after calls : List ℕ) (i : ℕ) → InRange xs → length before ≡ 3 * i → calls ≡ before ++ (numbersOf xs ++ after)
+read-back : (xs : List Asking) (before after calls : List ℕ) (i : ℕ) → InTypes xs → length before ≡ 3 * i → calls ≡ before ++ (numbersOf xs ++ after)
     → readFrom (length xs) i calls ≡ xs
-unfolding readFrom InRange
+unfolding readFrom
 read-back [] before after calls i h n e = refl
 read-back (x ∷ xs) before after calls i h n e =
     let first : at calls (3 * i) ≡ wordOf (x .request) = rw add-zero at (place 0) in
     let rest : readFrom (length xs) (suc i) calls ≡ xs =
-    read-back xs (before ++ numbers) after calls (suc i) (h .1) (rw length-append (omega arith))
+    read-back xs (before ++ numbers) after calls (suc i) (h .2) (rw length-append (omega arith))
     (e ∙ sym (append-assoc before numbers (numbersOf xs ++ after))) in
     rw (first, place 1, place 2, word-back (x .request) (h .0), rest)
   where
@@ -111,7 +106,7 @@ module _ (calls : List ℕ) where
   read-later zero i (suc k) = let e : 0 - suc k ≡ 0 = omega arith in rw e
   read-later (suc n) i (suc k) = let e : i + suc k ≡ suc i + k = omega arith in let d : suc n - suc k ≡ n - k = omega arith in rw (e, d) (read-later n (suc i) k)
 
-end-is : (to words : ℕ) → 3 * to ≤ words → endIn to words ≡ to
+pub end-is : (to words : ℕ) → 3 * to ≤ words → endIn to words ≡ to
 end-is to words h = by (ltb to (words / 3)) refl
   where
     by : (t : Bool) → ltb to (words / 3) ≡ t → cond t to (words / 3) ≡ to
@@ -147,7 +142,7 @@ module _ (lines : List (List ℕ)) (s : Waiting) (room : 3 * (s .count + length 
 
   read : readFrom (length asked-for) (s .count) (left .calls) ≡ asked-for
   read =
-      read-back asked-for waited beyond (left .calls) (s .count) (calls-range (s .before) lines) waited-long
+      read-back asked-for waited beyond (left .calls) (s .count) (calls-typed (s .before) lines) waited-long
       (stored ∙ append-assoc waited (numbersOf asked-for) beyond)
 
   run : (k : ℕ) (lent : List ℕ) (m : Memory) → map asking (asks (s .count + k) (left .count) (left .calls) lent m)
@@ -162,6 +157,7 @@ module _ (lines : List (List ℕ)) (s : Waiting) (room : 3 * (s .count + length 
 pub histories : Histories
 histories =
     record {
+      typed = calls-typed;
       of-every-text = λ lines s room. record {
         count-is = taken-count lines s;
         calls-are = taken-calls lines s;

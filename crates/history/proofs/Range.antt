@@ -1,33 +1,31 @@
--- The call of a parsed line has arguments in their types' ranges: so many digits make no larger number, a place among names is below
--- their count, and bits that are named once each make a byte. A call or a look is at the time that the line's first word says, from
--- which the next line counts. Assumes nothing.
-use Prim.Native.Nat.{ℕ, zero, suc, _+_, _-_, _^_, _<_, _≤_}
+-- The call of a parsed line has arguments and a time in their types' ranges: so many digits make no larger number, a place among names
+-- is below their count, and what bits and registers are named is in range. A call or a look is at the time that the line's first word
+-- says, from which the next line counts. Assumes nothing.
+use Prim.Native.Nat.{ℕ, _^_, _<_}
 use mathlib.Core.Bool.{Bool, true, false, cond}
-use mathlib.Core.List.{List, [], _∷_}
-use mathlib.Core.Path.{_≡_, refl, sym, _∙_}
+use mathlib.Core.List.{List}
+use mathlib.Core.Path.{_≡_, refl}
 use native.Mathlib.Omega.{arith}
-use borrow.Author.Tests.{eqb-true, eqb-false, ltb-true, ltb-false}
+use borrow.Author.Tests.{ltb-true}
 use lib.Dec.{eqb, ltb}
 use lib.ListN.{length}
-use lib.Seq.{length-slice, take-length}
-use Rattle.bytes.specs.Bytes.{slice, indexOf, indexAfter}
 use Rattle.time.specs.declared.Time.{Time}
 use Rattle.time.proofs.Bools.{either}
-use Rattle.control.specs.Bits.{has}
+use Rattle.layout.specs.Whole.{TimeFits}
 use Rattle.reason.specs.declared.Reason.{Reason}
 use Rattle.reason.specs.declared.Reason.the-variants.{NoMode}
 use Rattle.lent.specs.declared.Request.{Request}
 use Rattle.ledger.specs.Lists.{Numbers}
 use Rattle.words.specs.declared.Word.{Word}
 use Rattle.words.specs.Words.{wordAt}
-use Rattle.words.specs.Text.{spells, split, placeOf}
+use Rattle.words.specs.Text.{placeOf}
 use Rattle.names.specs.declared.Kind.{Kind}
 use Rattle.names.specs.declared.Kind.the-variants as kind
 use Rattle.names.specs.declared.Bits.{Bits}
 use Rattle.names.specs.declared.Bits.the-variants as bits
-use Rattle.names.specs.Names.{Entry, named, registers, callNamed, registerNamed, bitNamed, modes}
-use Rattle.names.specs.Values.{bitsFrom, bitsNamed}
-use Rattle.names.proofs.Sums.{bit-within, sum-not, sum-twice, sum-last, sum-more}
+use Rattle.names.specs.Names.{callNamed, registerNamed, modes}
+use Rattle.names.specs.Values.{bitsNamed}
+use Rattle.names.proofs.Below.{bits-below, register-below}
 use Rattle.digits.specs.declared.Number.{Number}
 use Rattle.digits.specs.declared.Number.the-variants as number
 use Rattle.digits.specs.Digits.{hexIn}
@@ -35,8 +33,7 @@ use Rattle.digits.proofs.Laws.{hex-below}
 use Rattle.moments.specs.declared.Before.{Before}
 use Rattle.moments.specs.declared.Before.the-variants as before
 use Rattle.moments.specs.declared.Moment.{Moment}
-use Rattle.moments.specs.declared.Moment.the-variants as moment
-use Rattle.moments.specs.Moments.{momentOf}
+use Rattle.moments.proofs.Fits as times-in
 use Rattle.fields.specs.declared.Fault.{Fault}
 use Rattle.fields.specs.declared.Wide.{Wide}
 use Rattle.fields.specs.declared.Wide.the-variants as wide
@@ -50,76 +47,6 @@ use Rattle.grammar.specs.Grammar.{next, onWide, onNarrow, ended, writeLine, dat
 use Rattle.history.specs.History.{readOr, timeAfter}
 use Rattle.history.specs.Claim.{Times}
 
--- ---- bits by their names
-
-index-le : (b : ℕ) (xs : List ℕ) → indexOf b xs ≤ length xs
-unfolding indexOf indexAfter
-index-le b [] = omega arith
-index-le b (x ∷ xs) = by (eqb x b) (index-le b xs)
-  where
-    by : (t : Bool) → indexOf b xs ≤ length xs → indexAfter t (indexOf b xs) ≤ suc (length xs)
-    by true h = omega arith
-    by false h = omega arith
-
-index-inside : (b i to : ℕ) (xs : List ℕ) → i ≤ to → to ≤ length xs → i + indexOf b (slice i to xs) ≤ to
-unfolding slice
-index-inside b i to xs h k = omega (arith, index-le b (slice i to xs), length-slice i to xs k)
-
--- from a place on, part after part
-module _ (register : ℕ) (bs : List ℕ) (v : ℕ) where
-  -- in so many turns
-  abbrev InTurns : ℕ → Type 0
-  InTurns turns =
-      (i sum : ℕ) → length bs - i < turns → i ≤ length bs → sum < 256 → bitsFrom register sum (split 43 (slice i (length bs) bs)) ≡ bits.Is v → v < 256
-
-  one-part : (turns : ℕ) → InTurns turns → InTurns (suc turns)
-  one-part turns rest i sum f h l e = by (eqb bit 0) (has sum bit) (ltb end to) refl refl refl
-    where
-      to : ℕ
-      to = length bs
-
-      end : ℕ
-      end = i + indexOf 43 (slice i to bs)
-
-      bit : ℕ
-      bit = bitNamed register (slice i end bs)
-
-      inside : to ≤ length bs
-      inside = omega arith
-
-      bound : end ≤ to
-      bound = index-inside 43 i to bs h inside
-
-      within : has sum bit ≡ false → sum + bit < 256
-      within unset = bit-within register bs i to end inside refl bound sum bit refl l unset
-
-      by : (z t m : Bool) → eqb bit 0 ≡ z → has sum bit ≡ t → ltb end to ≡ m → v < 256
-      by true t m none twice more =
-          let no = sym (sum-not register bs i to end inside refl bound sum bit refl (eqb-true bit 0 none)) ∙ e in
-          let z : _≡_ {A = ℕ} 0 1 = cc in
-          omega arith
-      by false true m none twice more =
-          let no = sym (sum-twice register bs i to end inside refl bound sum bit refl (eqb-false bit 0 none) twice) ∙ e in
-          let z : _≡_ {A = ℕ} 0 1 = cc in
-          omega arith
-      by false false true none twice more =
-          let further = ltb-true end to more in
-          rest (end + 1) (sum + bit) (omega arith) (omega arith) (within twice)
-          (sum-more register bs i to end inside refl bound sum bit refl (eqb-false bit 0 none) twice further ∙ e)
-      by false false false none twice more =
-          let at-end : end ≡ to = omega (arith, bound, ltb-false end to more) in
-          let last = sym (sum-last register bs i to end inside refl bound sum bit refl (eqb-false bit 0 none) twice at-end) ∙ e in
-          let is : sum + bit ≡ v = cc in
-          omega (arith, within twice)
-
-  in-turns : (turns : ℕ) → InTurns turns
-  in-turns zero = λ i sum f h l e. omega arith
-  in-turns (suc turns) = one-part turns (in-turns turns)
-
-  bits-below : bitsNamed register bs ≡ bits.Is v → v < 256
-  unfolding bitsNamed slice
-  bits-below e = in-turns (suc (length bs)) 0 0 (omega arith) (omega arith) (omega arith) (rw take-length e)
-
 -- ---- a word's number
 
 data WideIn : Wide → Type 0 where
@@ -129,23 +56,6 @@ data WideIn : Wide → Type 0 where
 data NarrowIn : Narrow → Type 0 where
   is : (n : ℕ) → n < 2 ^ 8 → NarrowIn (narrow.Is n)
   wrong : {f : Fault} → NarrowIn (narrow.Wrong f)
-
-Each : List (Entry ℕ) → Type 0
-Each [] = Unit {0}
-Each (e ∷ es) = (e .meaning < 2 ^ 16) × Each es
-
-named-below : (es : List (Entry ℕ)) (bs : List ℕ) → Each es → named es 0 bs < 2 ^ 16
-unfolding Each
-named-below [] bs all = omega arith
-named-below (e ∷ es) bs all = by (spells (e .name) bs) (all .0) (named-below es bs (all .1))
-  where
-    by : (t : Bool) {m n : ℕ} → m < 2 ^ 16 → n < 2 ^ 16 → cond t m n < 2 ^ 16
-    by true h k = h
-    by false h k = k
-
-register-below : (bs : List ℕ) → registerNamed bs < 2 ^ 16
-unfolding registerNamed Each
-register-below bs = named-below registers bs (omega arith, (omega arith, (omega arith, (omega arith, (omega arith, tt)))))
 
 module _ (line : List ℕ) (w : Word) where
   register-in : WideIn (registerIn line w)
@@ -198,10 +108,10 @@ module _ (line : List ℕ) (w : Word) where
 
 -- ---- a line
 
--- with its arguments in range, and with the time from which the next line counts
+-- with its arguments and its time in range, and with the time from which the next line counts
 pub data LineIn : Before → Line → Type 0 where
   nothing : {b : Before} → LineIn b Nothing
-  call : {t : Time} {q : Request} → Numbers q → LineIn (before.At t) (Call t q)
+  call : {t : Time} {q : Request} → Numbers q → TimeFits t → LineIn (before.At t) (Call t q)
   look : {t : Time} {l : Looking} → LineIn (before.At t) (Look t l)
   wrong : {b : Before} {f : Fault} → LineIn b (Wrong f)
 
@@ -225,13 +135,13 @@ module _ (line : List ℕ) (w : Word) where
   end {b} h = either (LineIn b) (missing (next line w)) h wrong
 
 -- the words of each call, from the last back
-module _ (t : Time) (line : List ℕ) where
+module _ (t : Time) (fits : TimeFits t) (line : List ℕ) where
   abbrev In : Line → Type 0
   In = LineIn (before.At t)
 
   oscillator-in : (mode : ℕ) (modul : Bool) (w : Word) → mode < 2 ^ 8 → In (oscillatorLine t mode modul line w)
   unfolding oscillatorLine
-  oscillator-in mode modul w h = on-any (oscillatorIn line (next line w)) (λ o. end line (next line w) (call h))
+  oscillator-in mode modul w h = on-any (oscillatorIn line (next line w)) (λ o. end line (next line w) (call h fits))
 
   module-in : (mode : ℕ) (w : Word) → mode < 2 ^ 8 → In (moduleLine t mode line w)
   unfolding moduleLine
@@ -243,35 +153,36 @@ module _ (t : Time) (line : List ℕ) where
 
   value-line : (r : ℕ) (w : Word) → r < 2 ^ 16 → In (valueLine t r line w)
   unfolding valueLine
-  value-line r w h = on-narrow (value-in line (next line w) r) (λ v k. end line (next line w) (call (h, k)))
+  value-line r w h = on-narrow (value-in line (next line w) r) (λ v k. end line (next line w) (call (h, k) fits))
 
   byte-line : (a : ℕ) (w : Word) → a < 2 ^ 16 → In (byteLine t a line w)
   unfolding byteLine
-  byte-line a w h = on-narrow (byte-in line (next line w)) (λ v k. end line (next line w) (call (h, k)))
+  byte-line a w h = on-narrow (byte-in line (next line w)) (λ v k. end line (next line w) (call (h, k) fits))
 
   for-in : (k : Kind) (w : Word) → In (lineFor k t line w)
   unfolding lineFor writeLine dataLine readLine wordLine environmentLine lookLine
   for-in kind.Write w = on-wide (register-in line (next line w)) (λ r h. value-line r (next line w) h)
   for-in kind.Data w = on-wide (address-in line (next line w) _ _) (λ a h. byte-line a (next line w) h)
-  for-in kind.Read w = on-wide (address-in line (next line w) _ _) (λ a h. end line (next line w) (call h))
-  for-in kind.Word w = on-wide (address-in line (next line w) _ _) (λ a h. end line (next line w) (call h))
-  for-in kind.Protect w = end line w (call tt)
-  for-in kind.Reset w = end line w (call tt)
-  for-in kind.PowerOff w = end line w (call tt)
+  for-in kind.Read w = on-wide (address-in line (next line w) _ _) (λ a h. end line (next line w) (call h fits))
+  for-in kind.Word w = on-wide (address-in line (next line w) _ _) (λ a h. end line (next line w) (call h fits))
+  for-in kind.Protect w = end line w (call tt fits)
+  for-in kind.Reset w = end line w (call tt fits)
+  for-in kind.PowerOff w = end line w (call tt fits)
   for-in kind.Environment w = on-narrow (mode-in line (next line w)) (λ m h. module-in m (next line w) h)
   for-in kind.Look w =
       either In (missing (next line w)) look (on-wide (address-in line (next line w) _ _) (λ a h. cell-in a (next line w)))
   for-in kind.Unknown w = wrong
 
-timed-in : (b : Before) (line : List ℕ) (w : Word) (m : Moment) → LineIn (readOr b m) (timedLine line w m)
+timed-in : (b : Before) (line : List ℕ) (w : Word) {m : Moment} → times-in.MomentIn m → LineIn (readOr b m) (timedLine line w m)
 unfolding callLine
-timed-in b line w (moment.At t) =
-    either (LineIn (before.At t)) (missing (next line w)) wrong (for-in t line (callNamed (bytesOf line (next line w))) (next line w))
-timed-in b line w (moment.Wrong why) = wrong
+timed-in b line w (times-in.at t whole part) =
+    either (LineIn (before.At t)) (missing (next line w)) wrong
+    (for-in t (record { whole = whole; part = part }) line (callNamed (bytesOf line (next line w))) (next line w))
+timed-in b line w times-in.wrong = wrong
 
 pub line-in : (b : Before) (line : List ℕ) → LineIn (timeAfter b line) (lineOf b line)
 unfolding lineOf timeAfter
-line-in b line = let w = wordAt line 0 in by (missing w) (timed-in b line w (momentOf b (bytesOf line w)))
+line-in b line = let w = wordAt line 0 in by (missing w) (timed-in b line w (times-in.moment-in b (bytesOf line w)))
   where
     by : (t : Bool) {after : Before} {l : Line} → LineIn after l → LineIn (cond t b after) (cond t Nothing l)
     by true h = nothing
@@ -282,13 +193,13 @@ line-in b line = let w = wordAt line 0 in by (missing w) (timed-in b line w (mom
 -- a call is no other line, and its time is its own
 after-call : {b : Before} {l : Line} {t : Time} {q : Request} → LineIn b l → l ≡ Call t q → b ≡ before.At t
 after-call nothing e = cc
-after-call (call h) e = cc
+after-call (call h fits) e = cc
 after-call look e = cc
 after-call wrong e = cc
 
 after-look : {b : Before} {l : Line} {t : Time} {x : Looking} → LineIn b l → l ≡ Look t x → b ≡ before.At t
 after-look nothing e = cc
-after-look (call h) e = cc
+after-look (call h fits) e = cc
 after-look look e = cc
 after-look wrong e = cc
 

@@ -30,7 +30,7 @@ below-second n h =
     ap (λ (d : Duration). d .1) (sym (is-micros n (record { 0 = 0; 1 = n * 18446744073709 + n * 551616 / 1000000 }) (omega arith) (rw same) (omega arith)))
 
 -- seconds and microseconds below a second are one number of microseconds
-micros-split : (s n : ℕ) → n < 1000000 → _≡_ {A = Duration} (record { 0 = s; 1 = micros n .1 }) (micros (s * 1000000 + n))
+pub micros-split : (s n : ℕ) → n < 1000000 → _≡_ {A = Duration} (record { 0 = s; 1 = micros n .1 }) (micros (s * 1000000 + n))
 micros-split s n h =
     let rest : (s * 1000000 + n) % 1000000 ≡ n = omega arith in
     is-micros (s * 1000000 + n) _ (omega arith) (rw rest (below-second n h)) (omega (arith, below-second n h))

@@ -1,13 +1,11 @@
 -- Legible pages: those that document 01's report does not call blank; a page more at a time; and the blocks' legible pages make up the
 -- array's, since the blocks stand one after the other. Assumes nothing.
 use mathlib.Core.Path.{_≡_, refl, sym, ap, _∙_}
-use mathlib.Core.List.{List, [], _∷_, append-nil}
+use mathlib.Core.List.{List, [], _∷_}
 use mathlib.Core.Bool.{cond, not}
 use Prim.Native.Nat.{ℕ, zero, suc, _+_, _*_, _/_}
 use native.Mathlib.Nat.{add-zero, zero-add}
 use native.Mathlib.Omega.{arith}
-use lib.ListN.{length}
-use lib.Seq.{sets, sets-eq, drop-length}
 use Rattle.time.specs.declared.Time.{Time}
 use Rattle.control.specs.Blocks.{eraseRange, inOrder}
 use Rattle.control.proofs.Tiling.{blocks-in-order}
@@ -25,10 +23,6 @@ legible-reported t k a = refl
 pub legible-at : (t : Time) (k : Chip) (p : ℕ) → legible (imageAt t k) p ≡ not (blankAt t k (p * 128))
 unfolding legible blankAt
 legible-at t k p = let e : p * 128 / 128 * 128 ≡ p * 128 = omega arith in rw e
-
--- an output as long as the image holds the image alone
-pub image-alone : (image out : List ℕ) → length image ≡ length out → sets out 0 image ≡ image
-image-alone image out e = sets-eq image out 0 (omega arith) ∙ rw (zero-add (length image), e, drop-length out, append-nil image)
 
 -- ---- one page after the other, n and m more
 

@@ -3,3 +3,4 @@
 pub mod Places
 pub mod Ends
 pub mod Counts
+pub mod Images

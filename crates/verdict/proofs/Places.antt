@@ -39,14 +39,15 @@ block-turn b p h =
     let d : b + 1 ≡ suc b = omega arith in
     rw (e, d)
 
-pub block-inside : (b : ℕ) → b < 6 → blockRange b .first + blockRange b .pages ≤ 384
+-- a block has pages, and they lie in the array
+pub block-inside : (b : ℕ) → b < 6 → (1 ≤ blockRange b .pages) × (blockRange b .first + blockRange b .pages ≤ 384)
 unfolding eraseRange
-block-inside zero h = omega arith
-block-inside (suc zero) h = omega arith
-block-inside (suc (suc zero)) h = omega arith
-block-inside (suc (suc (suc zero))) h = omega arith
-block-inside (suc (suc (suc (suc zero)))) h = omega arith
-block-inside (suc (suc (suc (suc (suc zero))))) h = omega arith
+block-inside zero h = (omega arith, omega arith)
+block-inside (suc zero) h = (omega arith, omega arith)
+block-inside (suc (suc zero)) h = (omega arith, omega arith)
+block-inside (suc (suc (suc zero))) h = (omega arith, omega arith)
+block-inside (suc (suc (suc (suc zero)))) h = (omega arith, omega arith)
+block-inside (suc (suc (suc (suc (suc zero))))) h = (omega arith, omega arith)
 block-inside (suc (suc (suc (suc (suc (suc b)))))) h = absurd (omega arith)
 
 -- the erase values of n blocks from block b on

@@ -16,7 +16,7 @@ cast-legible-pages-2 : tie.Need-cast-legible-pages-2
 cast-legible-pages-2 c = search needs
 
 legible-pages-requires : tie.Need-legible-pages-requires
-legible-pages-requires c κs = rw (c .before .before .block-range .ensures) (omega (arith, block-inside (c .before .before .before .before .args .block) (search needs)))
+legible-pages-requires c κs = rw (c .before .before .block-range .ensures) (omega (arith, block-inside (c .before .before .before .before .args .block) (search needs) .1))
 
 returns : tie.Need-returns
 returns c = rw (← c .before .before .before .block-range .ensures) (c .legible-pages .ensures)
