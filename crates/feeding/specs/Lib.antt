@@ -1,0 +1,2 @@
+-- The bytes of a piece that are moved to the line. Assumes nothing.
+pub mod Feeding

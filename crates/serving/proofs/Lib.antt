@@ -1,0 +1,4 @@
+-- Laws on calls that wait.
+-- Assumes nothing.
+pub mod Quiet
+pub mod Answered
