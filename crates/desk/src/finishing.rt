@@ -1,23 +1,21 @@
 // The end of a run: the files that were asked for, the report, and last the verdict.
-use crate::course::Course;
 use crate::word_in;
-use cell::FLASH_SIZE;
+use course::Course;
 use moments::Before;
 use options::Options;
-use see::see_image;
-use telling::files::write_picture;
-use telling::files::write_snapshot_file;
-use telling::map::draw_map;
-use telling::reporting::all_pages;
-use telling::reporting::all_pulses;
-use telling::reporting::legible_among;
-use telling::reporting::legible_ones;
-use telling::saying::say_calls;
-use telling::saying::say_judged;
-use telling::saying::say_left_out;
+use summary::Counts;
+use summary::Judged;
+use summary::report;
+use telling::files::discarded;
+use telling::files::kept;
+use telling::files::picture_drafted;
+use telling::files::snapshot_drafted;
+use telling::saying::say_report;
 use telling::saying::say_unseen;
-use telling::saying::say_verdict;
 use time::Time;
+
+// No report is longer than 9,214 bytes (crates/summary/proofs/Fits.antt), of which 7,296 are a line for each legible page.
+const REPORT: usize = 16384;
 
 // The time of the verdict: the one that was asked for, or that of the last call made.
 fn time_of(at: Before, last: Time) -> Time {
@@ -27,24 +25,10 @@ fn time_of(at: Before, last: Time) -> Time {
     }
 }
 
-// Whether the snapshot is written, if one was asked for.
-fn snapshot_written(
-    path: &[u8],
-    says: i32,
-    record: &[u8],
-    array: &[u8],
-    charges: &[u64],
-    buffer: &mut [u8],
-) -> bool {
-    if path.len() == 0 {
-        return true;
-    }
-    write_snapshot_file(path, says, record, array, charges, buffer)
-}
-
-// Whether the picture is written, if one was asked for.
-fn picture_written(
-    path: &[u8],
+// Whether all files that were asked for are drafted. If not, none is.
+fn files_drafted(
+    snapshot: &[u8],
+    picture: &[u8],
     says: i32,
     record: &[u8],
     array: &[u8],
@@ -52,10 +36,23 @@ fn picture_written(
     buffer: &mut [u8],
     time: Time,
 ) -> bool {
-    if path.len() == 0 {
-        return true;
+    if !snapshot_drafted(snapshot, says, record, array, charges, buffer) {
+        return false;
     }
-    write_picture(path, says, record, array, charges, buffer, time)
+    if !picture_drafted(picture, says, record, array, charges, buffer, time) {
+        discarded(snapshot);
+        return false;
+    }
+    true
+}
+
+// Whether all of them have their names.
+fn files_kept(snapshot: &[u8], picture: &[u8], says: i32) -> bool {
+    if !kept(snapshot, says) {
+        discarded(picture);
+        return false;
+    }
+    kept(picture, says)
 }
 
 // Whether the files that were asked for are written.
@@ -71,33 +68,33 @@ fn files_written(
 ) -> bool {
     let snapshot = word_in(args, options.snapshot);
     let picture = word_in(args, options.picture);
-    let kept = snapshot_written(snapshot, says, record, array, charges, buffer);
-    let drawn = picture_written(picture, says, record, array, charges, buffer, time);
-    kept & drawn
-}
-
-fn report(
-    course: Course,
-    options: Options,
-    image: &[u8],
-    record: &[u8],
-    array: &[u8],
-    charges: &[u64],
-    time: Time,
-) {
-    say_calls(course.made, course.refused);
-    say_left_out(course.left_out);
-    let tally = course.tally;
-    all_pulses(tally);
-    all_pages(image);
-    legible_ones(image);
-    if options.map {
-        draw_map(record, array, charges, time);
+    if files_drafted(
+        snapshot,
+        picture,
+        says,
+        record,
+        array,
+        charges,
+        buffer,
+        time,
+    ) {
+        return files_kept(snapshot, picture, says);
     }
-    say_judged(options.first as u64, options.pages as u64);
-    say_verdict(legible_among(image, options.first, options.pages) as u64);
+    false
 }
 
+// What is reported of a history that was read.
+fn counts_of(course: Course) -> Counts {
+    let tally = course.tally;
+    Counts {
+        made: course.made,
+        refused: course.refused,
+        left_out: course.left_out,
+        tally: tally,
+    }
+}
+
+// The report is made before files are written and said after, so that none is written of what can't be seen.
 pub fn finish(
     args: &[u8],
     options: Options,
@@ -110,13 +107,27 @@ pub fn finish(
 ) {
     let at = options.at;
     let time = time_of(at, course.last);
-    let mut image = [0u8; FLASH_SIZE];
-    let number = see_image(record, array, charges, time, &mut image);
-    if number != 0 {
-        say_unseen(says, number);
+    let judged = Judged {
+        first: options.first,
+        pages: options.pages,
+    };
+    let counts = counts_of(course);
+    let mut text = [0u8; REPORT];
+    let reported = report(
+        &mut text,
+        counts,
+        judged,
+        options.map,
+        record,
+        array,
+        charges,
+        time,
+    );
+    if reported.number != 0 {
+        say_unseen(says, reported.number);
         return;
     }
     if files_written(args, options, says, record, array, charges, buffer, time) {
-        report(course, options, &image, record, array, charges, time);
+        say_report(&text, reported.end);
     }
 }

@@ -1,50 +1,29 @@
 // The desk: a history is read from a file, run on the model, and reported. What is parsed, run, counted and put into words is in the
 // crates below; here files are read and written.
-pub mod course;
-pub mod finishing;
-pub mod lines;
-pub mod looking;
-pub mod memory;
-pub mod reading;
-pub mod waiting;
+mod finishing;
 
-use crate::course::begun;
 use crate::finishing::finish;
-use crate::memory::Array;
-use crate::memory::BUFFER;
-use crate::memory::Buffer;
-use crate::memory::Charges;
-use crate::memory::EVENT_WORDS;
-use crate::memory::Events;
-use crate::memory::Record;
-use crate::reading::read_history;
 use cell::CELLS;
 use cell::FLASH_SIZE;
+use course::Manner;
+use course::begun;
+use course::memory::Array;
+use course::memory::BUFFER;
+use course::memory::Buffer;
+use course::memory::Charges;
+use course::memory::EVENT_WORDS;
+use course::memory::Events;
+use course::memory::Record;
 use layout::RECORD_LEN;
 use options::Options;
 use options::options_of;
+use session::read_history;
+use slices::part;
 use telling::beginning::begin;
 use telling::beginning::last_settling;
 use telling::saying::say_help;
 use telling::troubles::complained;
 use words::Word;
-
-// How a run is told: whether events and answers are, whether it goes on after what can't be taken, and where complaints go.
-pub struct Asked {
-    pub events: bool,
-    pub go_on: bool,
-    pub says: i32,
-}
-
-// The bytes from one place up to another, none where there are no such places.
-pub fn part(bytes: &[u8], from: usize, to: usize) -> &[u8] {
-    if from <= to {
-        if to <= bytes.len() {
-            return &bytes[from..to];
-        }
-    }
-    &bytes[..0]
-}
 
 pub fn word_in(args: &[u8], word: Word) -> &[u8] {
     part(args, word.from, word.to)
@@ -66,16 +45,26 @@ fn serve(
     if !begin(image, snapshot, says, record, array, charges, buffer) {
         return;
     }
-    let asked = Asked {
+    let manner = Manner {
         events: options.events,
         go_on: options.go_on,
-        says: says,
     };
     let path = word_in(args, options.history);
     let course = begun(last_settling(record));
-    let done = read_history(path, course, asked, record, array, charges, events);
-    if !done.stopped {
-        finish(args, options, says, done, record, array, charges, buffer);
+    let read = read_history(
+        path,
+        says,
+        manner,
+        course,
+        record,
+        array,
+        charges,
+        events,
+        buffer,
+    );
+    if read.whole {
+        let after = read.course;
+        finish(args, options, says, after, record, array, charges, buffer);
     }
 }
 

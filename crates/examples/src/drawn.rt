@@ -1,7 +1,7 @@
 // A picture that a run wrote: its length, and its pixels counted and summed up.
-use desk::course::more;
+use course::more;
 use libc::STDOUT_FILENO;
-use telling::saying::first;
+use slices::first;
 use text::say;
 
 // The bytes of a picture: its head, then one for each cell.

@@ -3,8 +3,8 @@
 mod drawn;
 
 use bytes::scan::find;
-use desk::part;
 use libc::STDOUT_FILENO;
+use slices::part;
 
 fn type_word(args: &[u8], from: usize, to: usize) {
     io::write_all(STDOUT_FILENO, b" ");
@@ -62,6 +62,8 @@ fn main() {
       --restore\0box.snapshot\0later.history\0\n\
       --image\0box.image\0image.history\0\n\
       --picture\0box.pgm\0programmed.history\0\n\
+      --snapshot\0other.snapshot\0--picture\0nowhere/box.pgm\0wiped.history\0\n\
+      --restore\0other.snapshot\0wiped.history\0\n\
       --image\0wiped.history\0fresh.history\0\n\
       nowhere.history\0\n\
       --block\06\0fresh.history\0\n\

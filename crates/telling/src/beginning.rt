@@ -1,5 +1,4 @@
 // What the history begins with: an empty flash, an image, or a snapshot.
-use crate::saying::first;
 use crate::saying::say_image_length;
 use crate::saying::say_no_snapshot;
 use crate::saying::say_not_opened;
@@ -9,6 +8,7 @@ use coding::read;
 use layout::RECORD_LEN;
 use lent::making::make;
 use restore::read_snapshot;
+use slices::first;
 use time::Time;
 
 // Every byte FF.

@@ -1,5 +1,4 @@
 // What is wrong with the program's arguments.
-use crate::saying::first;
 use notices::ends_early;
 use notices::no_address;
 use notices::no_block;
@@ -10,6 +9,7 @@ use notices::no_word_after;
 use notices::second_history;
 use notices::two_ranges;
 use options::Trouble;
+use slices::first;
 use text::say;
 use text::say_word;
 

@@ -1,7 +1,7 @@
 // The program for the support desk: the verdict on a history. The work is done by `desk`; here its arguments are collected.
 ghost use Prim.Native.Nat.{_<_};
 use libc::STDERR_FILENO;
-use telling::saying::first;
+use slices::first;
 use text::putting::put_byte;
 use text::putting::put_text;
 

@@ -1,4 +1,4 @@
-//! The options of `wipe` that the runs use, and why a run does not begin.
+//! The options of `wipe` that the runs use, and why a run has no report.
 use crate::moment;
 use crate::registers::{digit, hexadecimal};
 use record::call::{ARRAY, BLOCKS};
@@ -28,6 +28,7 @@ pub enum Trouble<'a> {
     SecondHistory(&'a str),
     NoHistory,
     NotOpened(&'a str),
+    NotWritten(&'a str),
     /// And how many bytes it has.
     NoImage(&'a str, usize),
 }

@@ -4,10 +4,11 @@ use crate::{report, sentences};
 use original::Original;
 use record::{call::ARRAY, snapshot};
 use std::collections::{BTreeMap, BTreeSet};
-use std::{fs, io, path::PathBuf};
+use std::path::{Path, PathBuf};
+use std::{fs, io};
 
 /// What stands behind `wipe` in each run.
-pub const RUNS: [&str; 27] = [
+pub const RUNS: [&str; 29] = [
     "fresh.history",
     "--events programmed.history",
     "--map programmed.history",
@@ -27,6 +28,8 @@ pub const RUNS: [&str; 27] = [
     "--restore box.snapshot later.history",
     "--image box.image image.history",
     "--picture box.pgm programmed.history",
+    "--snapshot other.snapshot --picture nowhere/box.pgm wiped.history",
+    "--restore other.snapshot wiped.history",
     "--image wiped.history fresh.history",
     "nowhere.history",
     "--block 6 fresh.history",
@@ -70,6 +73,10 @@ impl Folder {
         fs::read(self.path.join(name)).map_err(|_| Trouble::NotOpened(name))
     }
 
+    fn has_folder_of(&self, name: &str) -> bool {
+        self.path.join(name).parent().is_some_and(Path::is_dir)
+    }
+
     /// What a run begins with.
     fn chip<'a>(&mut self, options: &Options<'a>) -> Result<Original, Trouble<'a>> {
         if let Some(name) = options.restore {
@@ -88,6 +95,10 @@ impl Folder {
         let chip = self.chip(&options)?;
         let history = self.read(options.history)?;
         let outcome = report::run(&options, chip, &history);
+        // None of two files is written if one can't be, and then nothing is reported. The histories of such runs say nothing before.
+        if let Some(name) = options.picture.filter(|name| !self.has_folder_of(name)) {
+            return Err(Trouble::NotWritten(name));
+        }
         if let Some(name) = options.snapshot {
             self.snapshots.insert(name.to_string(), snapshot::of(&outcome.chip));
         }

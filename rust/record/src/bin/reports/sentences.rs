@@ -109,7 +109,7 @@ pub fn mistaken(line: usize, mistake: &Mistake, goes_on: bool) -> String {
     format!("line {line}, column {}: {sentence}{end}\n", mistake.column)
 }
 
-/// Why a run does not begin.
+/// Why a run has no report.
 pub fn trouble(trouble: &Trouble) -> String {
     let words = match trouble {
         Trouble::NoBlock(word) => format!("{word} is not a block: 0 to 5"),
@@ -121,6 +121,7 @@ pub fn trouble(trouble: &Trouble) -> String {
         Trouble::SecondHistory(word) => format!("more than one history is named: {word}"),
         Trouble::NoHistory => "no history is named (see wipe --help)".to_string(),
         Trouble::NotOpened(name) => format!("{name} could not be opened"),
+        Trouble::NotWritten(name) => format!("{name} could not be written"),
         Trouble::NoImage(name, bytes) => format!("{name} has {bytes} bytes; an image has {ARRAY}"),
     };
     format!("wipe: {words}\n")
