@@ -10,13 +10,12 @@ use Rattle.cell.specs.Cell.{arrayBytes, arrayCells, at}
 use Rattle.lent.specs.Memory.{Memory}
 use Rattle.ledger.specs.Lists.{Asked, Typed, newMemory, memoryAfter}
 use Rattle.ledger.specs.Claim.{Demand}
-use Rattle.moments.specs.declared.Before.the-variants.{Nothing}
 use Rattle.history.specs.History.{Asking}
 use Rattle.history.specs.Claim.{asking}
 use Rattle.course.specs.declared.Manner.{Manner}
 use Rattle.course.specs.Course.{begunAt}
 use Rattle.course.specs.Desk.{Desk, desk}
-use Rattle.course.specs.Reader.{Reader, textRead, textCalls}
+use Rattle.course.specs.Reader.{Reader, startsWith, textRead, textCalls}
 
 -- The calls done of those asked for, from some memory on, and those that were not done, as the run had ended early.
 pub record Done (m : Memory) (asked : List Asking) (d : Desk) : Type 0 where
@@ -26,15 +25,9 @@ pub record Done (m : Memory) (asked : List Asking) (d : Desk) : Type 0 where
   pub all-done : d .course .stopped ≡ false → left ≡ []
   pub memory-is : d .memory ≡ memoryAfter done m
 
--- a run begins: a new array, the text's first byte, no time that a `+` could count from
+-- a run begins with a new array
 abbrev pub begun : List ℕ → List ℕ → List ℕ → Time → Reader
-begun firmware charges events t = record {
-  desk = desk (begunAt t) (newMemory firmware charges) events;
-  before = Nothing;
-  lines = 0;
-  line = [];
-  long = false;
-}
+begun firmware charges events t = startsWith (desk (begunAt t) (newMemory firmware charges) events)
 
 pub record Booking (firmware charges : List ℕ) (asked : List Asking) (d : Desk) : Type 0 where
   pub run : Done (newMemory firmware charges) asked d

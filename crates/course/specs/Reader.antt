@@ -6,6 +6,7 @@ use lib.Dec.{eqb, ltb}
 use lib.ListN.{length, take}
 use Rattle.reason.specs.declared.Reason.the-variants.{TooLong}
 use Rattle.moments.specs.declared.Before.{Before}
+use Rattle.moments.specs.declared.Before.the-variants as before
 use Rattle.fields.specs.declared.Fault.{Fault}
 use Rattle.grammar.specs.declared.Line.{Line}
 use Rattle.grammar.specs.declared.Line.the-variants.{Wrong}
@@ -28,6 +29,10 @@ pub record Reader : Type 0 where
 -- the reader, with all that its desk said and complained of after what was said and complained of before
 abbrev pub readAfter : List ℕ → List Complaint → Reader → Reader
 readAfter text cs r = record { desk = afterSaying text cs (r .desk); before = r .before; lines = r .lines; line = r .line; long = r .long }
+
+-- a text's first byte, with some desk: there is no time that a `+` could count from
+abbrev pub startsWith : Desk → Reader
+startsWith d = record { desk = d; before = before.Nothing; lines = 0; line = []; long = false }
 
 -- the longest line
 abbrev pub longest : ℕ

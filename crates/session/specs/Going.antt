@@ -11,7 +11,7 @@ use Rattle.course.specs.declared.Complaint.{Complaint}
 use Rattle.course.specs.declared.Course.{Course}
 use Rattle.course.specs.declared.Manner.{Manner}
 use Rattle.course.specs.Desk.{Desk, desk, afterSaying}
-use Rattle.course.specs.Reader.{Reader, readAfter, allRead, textRead}
+use Rattle.course.specs.Reader.{Reader, readAfter, startsWith, allRead, textRead}
 use Rattle.steps.specs.Stepping.{Sound, readerOf}
 use Rattle.session.specs.declared.Run.{Run}
 
@@ -45,10 +45,6 @@ pub record Goes (w : Manner) (more more′ : Bool) (r r′ : Reader) : Type 0 wh
 -- the reader of a run, in its memory
 abbrev pub readerIn : Manner → Run → List ℕ → List ℕ → List ℕ → Memory → List ℕ → Reader
 readerIn w r calls numbers line m events = readerOf w (r .place) calls numbers line (desk (r .course) m events)
-
--- a text's first byte, with a desk
-abbrev pub startsWith : Desk → Reader
-startsWith d = record { desk = d; before = Nothing; lines = 0; line = []; long = false }
 
 -- A file was read whole: its text left this course, memory and event words.
 pub record ReadWhole (w : Manner) (before : Desk) (c : Course) (m : Memory) (events : List ℕ) : Type 0 where
