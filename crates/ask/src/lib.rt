@@ -11,7 +11,7 @@ use perform::perform;
 use time::Time;
 
 // A refusal's number, 0 for none; the answer of a read; how many event words were given.
-#[derive(Drop)]
+#[derive(Clone, Copy)]
 pub struct Answer {
     pub number: u32,
     pub value: u16,

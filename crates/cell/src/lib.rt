@@ -17,7 +17,7 @@ pub const CELLS: usize = 393216;
 pub const PAGES: usize = 384;
 
 // By which limit a cell is sensed.
-#[derive(Drop)]
+#[derive(Clone, Copy)]
 pub enum Sense {
     Normal,
     ProgramVerify,
@@ -25,7 +25,7 @@ pub enum Sense {
 }
 
 // Which way a pulse moves charges.
-#[derive(Drop)]
+#[derive(Clone, Copy)]
 pub enum Direction {
     Program,
     Erase,

@@ -7,7 +7,7 @@ pub mod verify;
 use time::Time;
 
 // The controller's modes, 0 to 5.
-#[derive(Drop)]
+#[derive(Clone, Copy)]
 pub enum Mode {
     Active,
     Subactive,
@@ -18,7 +18,7 @@ pub enum Mode {
 }
 
 // The array's supply, 0 to 2.
-#[derive(Drop)]
+#[derive(Clone, Copy)]
 pub enum Supply {
     Normal,
     Reduced,
@@ -26,14 +26,14 @@ pub enum Supply {
 }
 
 // A verify sense of four bytes, due at an instant.
-#[derive(Drop)]
+#[derive(Clone, Copy)]
 pub enum Pending {
     Nothing,
     Sense(u16, Time),
 }
 
 // Pages from the first on.
-#[derive(Drop)]
+#[derive(Clone, Copy)]
 pub struct Range {
     pub first: u16,
     pub pages: u16,

@@ -12,14 +12,14 @@ use verdict::Tally;
 pub mod memory;
 
 // How a run is told: whether events and answers are, and whether it goes on after what can't be taken.
-#[derive(Drop)]
+#[derive(Clone, Copy)]
 pub struct Manner {
     pub events: bool,
     pub go_on: bool,
 }
 
 // Calls made and refused, lines left out, pulses by block, the time of the last call made, and whether the run has ended early.
-#[derive(Drop)]
+#[derive(Clone, Copy)]
 pub struct Course {
     pub made: u64,
     pub refused: u64,
@@ -30,7 +30,7 @@ pub struct Course {
 }
 
 // What a run complains of, with the number of its line: a refused call, a refused look, a line that can't be taken.
-#[derive(Drop)]
+#[derive(Clone, Copy)]
 pub enum Complaint {
     Nothing,
     Refused(u64, u32),
@@ -39,7 +39,7 @@ pub enum Complaint {
 }
 
 // Where a run stands in its text.
-#[derive(Drop)]
+#[derive(Clone, Copy)]
 pub struct Place {
     // The time that a `+` counts from, and how many lines were read.
     pub before: Before,

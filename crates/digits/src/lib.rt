@@ -4,7 +4,7 @@ ghost use Rattle.bytes.specs.Bytes.{slice};
 ghost use Rattle.digits.specs.Digits.{within, digit_of, number_in, hex_in};
 
 // What a stretch of a line is as a number.
-#[derive(Drop)]
+#[derive(Clone, Copy)]
 pub enum Number {
     Is(u64),
     TooLarge,

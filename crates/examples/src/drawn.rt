@@ -9,7 +9,7 @@ const HEAD: usize = 15;
 
 const CELLS: usize = 393216;
 
-#[derive(Drop)]
+#[derive(Clone, Copy)]
 struct Pixels {
     bright: u64,
     sum: u64,

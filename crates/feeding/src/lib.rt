@@ -9,7 +9,7 @@ use course::memory::{Bytes, LONGEST};
 use text::putting::put_text;
 
 // Where a run stands then, and whether the line ended.
-#[derive(Drop)]
+#[derive(Clone, Copy)]
 pub struct Fed {
     pub place: Place,
     pub ended: bool,

@@ -9,7 +9,7 @@ use reason::Reason;
 use words::Word;
 
 // Why a line can't be taken, and the stretch of it that is wrong, which is empty where something is missing.
-#[derive(Drop)]
+#[derive(Clone, Copy)]
 pub struct Fault {
     pub reason: Reason,
     pub from: usize,
@@ -17,13 +17,13 @@ pub struct Fault {
 }
 
 // What a word means: a number of 16 bits or of 8, or a fault.
-#[derive(Drop)]
+#[derive(Clone, Copy)]
 pub enum Wide {
     Is(u16),
     Wrong(Fault),
 }
 
-#[derive(Drop)]
+#[derive(Clone, Copy)]
 pub enum Narrow {
     Is(u8),
     Wrong(Fault),

@@ -5,7 +5,7 @@ use registers::Registers;
 use time::Time;
 
 // The state but for what is lent. An entry of `indices` is 0 for a page without charges, and slot + 1 for a page with some.
-#[derive(Drop)]
+#[derive(Clone, Copy)]
 pub struct Flash {
     pub registers: Registers,
     pub pulse_since: Time,

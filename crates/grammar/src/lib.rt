@@ -16,7 +16,7 @@ use words::{Word, word_at};
 mod lines;
 
 // What a line is.
-#[derive(Drop)]
+#[derive(Clone, Copy)]
 pub enum Line {
     Nothing,
     Call(Time, Request),
@@ -25,7 +25,7 @@ pub enum Line {
 }
 
 // What a line looks at: the whole flash, a byte by its address, or a cell of it by its bit too.
-#[derive(Drop)]
+#[derive(Clone, Copy)]
 pub enum Looking {
     Whole,
     Byte(u16),

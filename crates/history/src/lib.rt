@@ -13,7 +13,7 @@ use words::word_at;
 pub const NUMBERS: usize = 3;
 
 // What a line is, the time that the next line counts from, and how many calls wait.
-#[derive(Drop)]
+#[derive(Clone, Copy)]
 pub struct Taken {
     pub line: Line,
     pub before: Before,

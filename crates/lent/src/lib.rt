@@ -5,7 +5,7 @@ pub mod checking;
 pub mod making;
 
 // The calls of the ledger as a host asks for them, with their arguments but the time: a mode is a number here, and may be none.
-#[derive(Drop)]
+#[derive(Clone, Copy)]
 pub enum Request {
     WriteRegister(u16, u8),
     Write8(u16, u8),

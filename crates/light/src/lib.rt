@@ -17,7 +17,7 @@ use registers::Registers;
 use time::Time;
 
 // The registers that a register write can change, but for a pending sense.
-#[derive(Drop)]
+#[derive(Clone, Copy)]
 pub struct Settings {
     pub control: u8,
     pub erase: u8,
@@ -31,7 +31,7 @@ pub struct Settings {
 }
 
 // Where a run of light calls comes to: the state, and the first call that is not done.
-#[derive(Drop)]
+#[derive(Clone, Copy)]
 pub struct Ahead {
     pub flash: Flash,
     pub done: usize,

@@ -17,7 +17,7 @@ use settle::pages::cell_at;
 use time::{Duration, Time};
 
 // The exposure that a look adds: a pulse, and for how long. Without a pulse the time is 0.
-#[derive(Drop)]
+#[derive(Clone, Copy)]
 pub struct View {
     pub pulse: Pulse,
     pub exposure: Duration,

@@ -8,33 +8,33 @@ use reason::Reason;
 use time::{Duration, Sum, Time};
 
 // What a line says of its time.
-#[derive(Drop)]
+#[derive(Clone, Copy)]
 pub enum Moment {
     At(Time),
     Wrong(Reason),
 }
 
 // The time of the line before, if there is one.
-#[derive(Drop)]
+#[derive(Clone, Copy)]
 pub enum Before {
     Nothing,
     At(Time),
 }
 
-#[derive(Drop)]
+#[derive(Clone, Copy)]
 pub enum Length {
     Is(Duration),
     Wrong(Reason),
 }
 
-#[derive(Drop)]
+#[derive(Clone, Copy)]
 pub enum Part {
     Is(u64),
     Wrong(Reason),
 }
 
 // A fraction of a second as microseconds, where it is that of some, or raw.
-#[derive(Drop)]
+#[derive(Clone, Copy)]
 pub enum Exact {
     Micros(u64),
     Raw,

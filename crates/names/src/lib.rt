@@ -10,7 +10,7 @@ use words::spelling::place;
 pub mod values;
 
 // What a line asks for.
-#[derive(Drop)]
+#[derive(Clone, Copy)]
 pub enum Kind {
     Write,
     Data,
@@ -25,7 +25,7 @@ pub enum Kind {
 }
 
 // What names of bits make: a value, or nothing because one is there twice, or because one is no name.
-#[derive(Drop)]
+#[derive(Clone, Copy)]
 pub enum Bits {
     Is(u8),
     Twice,

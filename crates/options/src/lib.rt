@@ -10,7 +10,7 @@ mod taking;
 mod values;
 
 // What the program is asked for. A word that is empty is not given; where there is a trouble, or the help is asked for, nothing else is said.
-#[derive(Drop)]
+#[derive(Clone, Copy)]
 pub struct Options {
     pub history: Word,
     pub image: Word,
@@ -31,7 +31,7 @@ pub struct Options {
 }
 
 // What is wrong with the arguments.
-#[derive(Drop)]
+#[derive(Clone, Copy)]
 pub enum Trouble {
     Nothing,
     NoSuchOption,
@@ -52,14 +52,14 @@ pub enum Trouble {
 }
 
 // Whether an option or the history is given, and its word.
-#[derive(Drop)]
+#[derive(Clone, Copy)]
 pub struct Said {
     pub given: bool,
     pub word: Word,
 }
 
 // What the next word is.
-#[derive(Drop)]
+#[derive(Clone, Copy)]
 pub enum Stage {
     // An option or the history.
     Open,
@@ -72,7 +72,7 @@ pub enum Stage {
 }
 
 // What the words up to a place give.
-#[derive(Drop)]
+#[derive(Clone, Copy)]
 pub struct Given {
     pub said: [Said; 13],
     pub stage: Stage,

@@ -16,7 +16,7 @@ use settling::settle;
 use time::Time;
 
 // The state after a call, its answer, and the number of event words given.
-#[derive(Drop)]
+#[derive(Clone, Copy)]
 pub struct Done {
     pub flash: Flash,
     pub value: u16,

@@ -9,7 +9,7 @@ use registers::Registers;
 use time::Time;
 
 // The array is private: `normal_read` alone makes a permit.
-#[derive(Drop)]
+#[derive(Clone, Copy)]
 pub struct NormalRead<'a> {
     array: &'a [u8],
 }

@@ -1,5 +1,5 @@
 // Why a line of a history can't be taken.
-#[derive(Drop)]
+#[derive(Clone, Copy)]
 pub enum Reason {
     // The time.
     NoTime,

@@ -14,7 +14,7 @@ use time::Time;
 // Bytes of a page, as an address has them.
 pub const PAGE_BYTES: u16 = PAGE as u16;
 
-#[derive(Drop)]
+#[derive(Clone, Copy)]
 pub struct Registers {
     pub control: u8,
     pub error: bool,
@@ -80,7 +80,7 @@ impl Registers {
 }
 
 // A pulse is its direction, range and ready instant.
-#[derive(Drop)]
+#[derive(Clone, Copy)]
 pub struct Pulse {
     pub direction: Direction,
     pub first: u16,
@@ -88,14 +88,14 @@ pub struct Pulse {
     pub ready: Time,
 }
 
-#[derive(Drop)]
+#[derive(Clone, Copy)]
 pub enum OpenPulse {
     Closed,
     Open(Pulse),
 }
 
 // The calls that the ledger enters, with their arguments but the time.
-#[derive(Drop)]
+#[derive(Clone, Copy)]
 pub enum Call {
     WriteRegister(u16, u8),
     Write8(u16, u8),
@@ -108,7 +108,7 @@ pub enum Call {
 }
 
 // How a pulse ended.
-#[derive(Drop)]
+#[derive(Clone, Copy)]
 pub enum Ending {
     Completed,
     Interrupted,

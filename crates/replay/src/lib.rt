@@ -8,7 +8,7 @@ use lent::checking::sizes_misfit;
 use running::run;
 
 // The first call that is not done, and what the last one said: its refusal's number, its value, how many event words it gave.
-#[derive(Drop)]
+#[derive(Clone, Copy)]
 pub struct Replayed {
     pub done: usize,
     pub number: u32,

@@ -16,7 +16,7 @@ use perform::perform;
 use time::Time;
 
 // The state that a call left, and what it said.
-#[derive(Drop)]
+#[derive(Clone, Copy)]
 pub struct Said {
     pub flash: Flash,
     pub number: u32,
@@ -25,14 +25,14 @@ pub struct Said {
 }
 
 // The same, and whether that stops a replay.
-#[derive(Drop)]
+#[derive(Clone, Copy)]
 pub struct Next {
     pub said: Said,
     pub stopped: bool,
 }
 
 // The same where a replay ends, with the first call that is not done.
-#[derive(Drop)]
+#[derive(Clone, Copy)]
 pub struct Ran {
     pub flash: Flash,
     pub done: usize,

@@ -23,7 +23,7 @@ use settle::pages::opened;
 use snapshot::{COUNT, PAGE_LEN, page_at};
 
 // A refusal's number, and the length where it is 0.
-#[derive(Drop)]
+#[derive(Clone, Copy)]
 pub struct Written {
     pub number: u32,
     pub length: usize,

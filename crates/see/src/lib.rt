@@ -15,13 +15,13 @@ use look::looking::cell_charge;
 use time::Time;
 
 // A refusal's number, and the answer where it is 0: a byte, or a charge.
-#[derive(Drop)]
+#[derive(Clone, Copy)]
 pub struct Seen {
     pub number: u32,
     pub value: u8,
 }
 
-#[derive(Drop)]
+#[derive(Clone, Copy)]
 pub struct SeenCharge {
     pub number: u32,
     pub value: u64,

@@ -14,7 +14,7 @@ use verdict::pulses::tallied;
 use voices::call_said;
 
 // The course after some calls, the first call that is not done, what is complained of, and where the text that is said ends.
-#[derive(Drop)]
+#[derive(Clone, Copy)]
 pub struct Served {
     pub course: Course,
     pub next: usize,

@@ -21,7 +21,7 @@ const PIECE: usize = 65536;
 pub type Piece = [u8; PIECE];
 
 // A run over a file: how many bytes the piece has, whether the file may have more, and whether it could not be read.
-#[derive(Drop)]
+#[derive(Clone, Copy)]
 pub struct Run {
     pub course: Course,
     pub place: Place,
@@ -31,7 +31,7 @@ pub struct Run {
 }
 
 // The course of a run, and whether the file was read whole and all calls in it were run.
-#[derive(Drop)]
+#[derive(Clone, Copy)]
 pub struct Read {
     pub course: Course,
     pub whole: bool,

@@ -16,7 +16,7 @@ pub mod reading;
 mod waiting;
 
 // What a step came to: how much it said at the start of the lent bytes, and what it complained of.
-#[derive(Drop)]
+#[derive(Clone, Copy)]
 pub struct Stepped {
     pub course: Course,
     pub place: Place,

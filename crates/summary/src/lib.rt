@@ -23,7 +23,7 @@ pub mod mapping;
 pub mod paging;
 
 // Calls made, calls refused, lines left out, and pulses.
-#[derive(Drop)]
+#[derive(Clone, Copy)]
 pub struct Counts {
     pub made: u64,
     pub refused: u64,
@@ -32,14 +32,14 @@ pub struct Counts {
 }
 
 // The pages that the verdict is on: so many from a first one on.
-#[derive(Drop)]
+#[derive(Clone, Copy)]
 pub struct Judged {
     pub first: usize,
     pub pages: usize,
 }
 
 // A refusal's number, and where the report ends if it is 0.
-#[derive(Drop)]
+#[derive(Clone, Copy)]
 pub struct Reported {
     pub number: u32,
     pub end: usize,

@@ -16,7 +16,7 @@ fn begin_empty(record: &mut [u8], array: &mut [u8], charges: &[u64]) -> bool {
 }
 
 // A file in the buffer: how many bytes, or why not.
-#[derive(Drop)]
+#[derive(Clone, Copy)]
 enum Loaded {
     Bytes(usize),
     Nothing,

@@ -11,7 +11,7 @@ pub mod putting;
 
 // What a byte of a template stands for: itself, the word, or a number, hexadecimal or decimal, of which the last
 // digits are put, so many places at most, with zeros in front only where it is padded.
-#[derive(Drop)]
+#[derive(Clone, Copy)]
 pub enum Mark {
     Plain,
     Word,

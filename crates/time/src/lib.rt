@@ -4,15 +4,15 @@ ghost use Rattle.std.specs.Prelude.{◌≡◌, ◌<◌, ltb, leb, eqb};
 ghost use Rattle.time.specs.Raw.{raw, span, later, added, after, since, micros, micros_per_second, BeforeLastSecond};
 
 // An instant: whole seconds, and a fraction of a second.
-#[derive(Drop)]
+#[derive(Clone, Copy)]
 pub struct Time(pub u64, pub u64);
 
 // A length of time, in the same units. A kind of its own: nothing takes one for the other.
-#[derive(Drop)]
+#[derive(Clone, Copy)]
 pub struct Duration(pub u64, pub u64);
 
 // A sum of an instant and a length, or none where it would pass the last instant.
-#[derive(Drop)]
+#[derive(Clone, Copy)]
 pub enum Sum {
     At(Time),
     Overflow,

@@ -8,7 +8,7 @@ use io::{print_decimal, print_hex, write_all};
 use libc::STDOUT_FILENO;
 use std::num::wrapping_add_u64;
 
-#[derive(Drop)]
+#[derive(Clone, Copy)]
 pub struct Tally {
     // Whether rows are still to come, and whether the last row was as it has to be.
     pub reading: bool,

@@ -4,7 +4,7 @@ pub mod legible;
 pub mod pulses;
 
 // How many pulses ended in each block: completed, and interrupted. A count stays at the largest number.
-#[derive(Drop)]
+#[derive(Clone, Copy)]
 pub struct Tally {
     pub completed: [u64; 6],
     pub interrupted: [u64; 6],

@@ -14,7 +14,7 @@ use time::Time;
 mod looks;
 
 // The course after a look, what is complained of, and where the text ends.
-#[derive(Drop)]
+#[derive(Clone, Copy)]
 pub struct Seeing {
     pub course: Course,
     pub complaint: Complaint,

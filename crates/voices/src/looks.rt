@@ -15,14 +15,14 @@ use time::Time;
 use verdict::legible::legible_pages;
 
 // A refusal's number, and how many pages are legible where it is 0.
-#[derive(Drop)]
+#[derive(Clone, Copy)]
 struct Pages {
     number: u32,
     legible: u64,
 }
 
 // A refusal's number, and where the text ends.
-#[derive(Drop)]
+#[derive(Clone, Copy)]
 pub struct Sight {
     pub number: u32,
     pub end: usize,

@@ -9,7 +9,7 @@ use text::putting::{put_byte, put_text};
 const ROOM: usize = 65536;
 
 // Where the arguments end that were put together so far, and whether each was taken whole.
-#[derive(Drop)]
+#[derive(Clone, Copy)]
 struct Collected {
     end: usize,
     whole: bool,

@@ -5,7 +5,7 @@ ghost use Rattle.words.specs.Words.{blank, in_word, RunEnd, NextWord};
 pub mod spelling;
 
 // A stretch of a line, from its first byte up to, not including, `to`. An empty one is no word, and stands where a word would begin.
-#[derive(Drop)]
+#[derive(Clone, Copy)]
 pub struct Word {
     pub from: usize,
     pub to: usize,
