@@ -1,4 +1,6 @@
 // Reading and writing registers by their addresses.
+#![tactic(auto)]
+
 ghost use Rattle.std.specs.Prelude.{◌≡◌};
 ghost use Rattle.time.specs.Raw.{BeforeLastSecond};
 ghost use Rattle.control.specs.Bits.{control_value};

@@ -1,4 +1,6 @@
 // The answers of reads and looks in words, each with the number of its line. What does not fit is cut off.
+#![tactic(auto)]
+
 ghost use Rattle.text.specs.Puts.{Puts};
 ghost use Rattle.answers.specs.Answers.{answer_said, byte_said, cell_said, whole_said};
 

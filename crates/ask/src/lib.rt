@@ -1,4 +1,6 @@
 // The ledger's calls over lent memory.
+#![tactic(auto)]
+
 ghost use Rattle.std.specs.Prelude.{◌≡◌, ◌<◌};
 ghost use Rattle.flash.specs.Chip.{answer_limit};
 ghost use Rattle.lent.specs.Asked.{call_of, outcome, Told};

@@ -1,4 +1,6 @@
 // Control's bits and the registers' addresses, and the values that writes store.
+#![tactic(auto)]
+
 ghost use Rattle.std.specs.Prelude.{◌≡◌, ◌<◌};
 ghost use Rattle.control.specs.Bits.{has, falls, flag, control_value, erase_after, erase_value, setup};
 

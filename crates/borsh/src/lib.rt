@@ -1,1 +1,2 @@
 // The Borsh specification's formats: definitions and proofs alone.
+#![tactic(auto)]

@@ -1,4 +1,6 @@
 // The calls of the ledger: what each does to the registers, whether it settles, and how a pulse that it ends has ended.
+#![tactic(auto)]
+
 ghost use Rattle.std.specs.Prelude.{◌≡◌};
 ghost use Rattle.time.specs.Raw.{BeforeLastSecond};
 ghost use Rattle.registers.specs.Pulses.{is_open};

@@ -1,4 +1,6 @@
 // Which records are refused by 3.
+#![tactic(auto)]
+
 pub mod slots;
 
 ghost use Rattle.std.specs.Prelude.{◌≡◌, ◌≤◌, length};

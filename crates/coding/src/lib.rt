@@ -1,4 +1,6 @@
 // The record: the state's bytes, read and written.
+#![tactic(auto)]
+
 pub mod state;
 
 ghost use Rattle.std.specs.Prelude.{◌≡◌, ◌++◌, length, take};

@@ -1,5 +1,7 @@
 // What the manual fixes: the bits of the registers, the blocks, the waits, and the supply of each mode. All on plain numbers and
 // instants; the state that holds them is the crate `registers`. The functions on bits and waits are crates of their own.
+#![tactic(auto)]
+
 pub mod blocks;
 pub mod supplies;
 pub mod verify;

@@ -1,4 +1,6 @@
 // The course of a run: what was counted, and how it changes when calls are made, when one is refused, and when a line is left out.
+#![tactic(auto)]
+
 ghost use Rattle.std.specs.Prelude.{◌≡◌};
 ghost use Rattle.verdict.specs.Pulses.{raised};
 ghost use Rattle.course.specs.Course.{with_calls, after_refusal, after_left_out, begun_at};

@@ -1,5 +1,7 @@
 // The desk: a history is read from a file, run on the model, and reported. What is parsed, run, counted and put into words is in the
 // crates below; here files are read and written.
+#![tactic(auto)]
+
 mod finishing;
 
 use crate::finishing::finish;

@@ -1,6 +1,8 @@
 // Numbers written in a stretch of a line.
+#![tactic(auto)]
+
 ghost use Rattle.std.specs.Prelude.{◌≡◌, ◌≤◌, length};
-ghost use Rattle.bytes.specs.Bytes.{slice};
+ghost use Rattle.byte_search.specs.Search.{slice};
 ghost use Rattle.digits.specs.Digits.{within, digit_of, number_in, hex_in};
 
 // What a stretch of a line is as a number.

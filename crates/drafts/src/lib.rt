@@ -1,5 +1,7 @@
 // Files that are written all or none: each is first made beside its place, as a draft with `.part` behind its name, and takes its name when
 // every one of them is whole. What stood there before stays until then.
+#![tactic(auto)]
+
 use libc::{ENOENT, SEEK_END};
 use slices::first;
 use text::putting::put_text;

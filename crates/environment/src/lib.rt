@@ -1,4 +1,6 @@
 // Reset, power-off, and changes of mode, module and oscillator.
+#![tactic(auto)]
+
 ghost use Rattle.std.specs.Prelude.{◌≡◌};
 ghost use Rattle.time.specs.Raw.{BeforeLastSecond};
 ghost use Rattle.registers.specs.Environment.{cleared, reset, power_off, unchanged, clears, environment_set, environment};

@@ -1,8 +1,10 @@
 // Runs the example histories through the library, as the program `wipe` does, and prints what it would print, complaints too. The file
 // `stdout` has what is expected: it was written from the original, without this library.
+#![tactic(auto)]
+
 mod drawn;
 
-use bytes::scan::find;
+use byte_search::find;
 use libc::STDOUT_FILENO;
 use slices::part;
 

@@ -1,5 +1,7 @@
 // What the program says of a line of a history that it can't take, in words for a reader of the history. The contract says where the text
 // ends, and that it stays in the slice; the words themselves are the code's. What does not fit is cut off.
+#![tactic(auto)]
+
 ghost use Rattle.text.specs.Puts.{Ends};
 
 use missing_words::missing;

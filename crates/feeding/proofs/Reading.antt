@@ -9,7 +9,7 @@ use borrow.Author.Tests.{lt-ltb, le-ltb, eqb-true}
 use lib.Dec.{eqb, ltb, leb-suc-suc}
 use lib.ListN.{length, get_or, take, length-append}
 use lib.Seq.{take-nil, take-suc}
-use Rattle.bytes.specs.Bytes.{index_of, index_after}
+use Rattle.byte_search.specs.Search.{index_of, index_after}
 use Rattle.course.specs.declared.Manner.{Manner}
 use Rattle.course.specs.Reader.{Reader, longest, newline, line_ended, byte_kept, all_read}
 use Rattle.course.proofs.Claimed.{runs}

@@ -1,6 +1,6 @@
 -- The bytes of a piece are moved to the line, up to the line's end or the piece's. docs/HISTORY-FORMAT.md. Assumes nothing.
 use Rattle.std.specs.Prelude.{ℕ, suc, ◌+◌, ◌-◌, ◌≤◌, ◌<◌, Bool, cond, List, ◌≡◌, ltb, length, take, drop}
-use Rattle.bytes.specs.Bytes.{index_of}
+use Rattle.byte_search.specs.Search.{index_of}
 use Rattle.course.specs.declared.Manner.{Manner}
 use Rattle.course.specs.declared.Place.{Place}
 use Rattle.course.specs.Desk.{Desk}

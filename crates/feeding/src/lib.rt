@@ -1,9 +1,11 @@
 // The bytes of a piece are moved to the line, up to the line's end or the piece's.
+#![tactic(auto)]
+
 ghost use Rattle.std.specs.Prelude.{◌≤◌, ◌<◌, length};
 ghost use Rattle.course.specs.Reader.{longest};
 ghost use Rattle.feeding.specs.Feeding.{Feeds};
 
-use bytes::scan::find;
+use byte_search::find;
 use course::Place;
 use course::memory::{Bytes, LONGEST};
 use text::putting::put_text;

@@ -1,7 +1,7 @@
 -- What each word of a call means: a number, or a fault with its reason and its place. A missing word is empty, and has the fault of a
 -- wrong one. Assumes nothing.
 use Rattle.std.specs.Prelude.{ℕ, Bool, cond, List, eqb, ltb, length}
-use Rattle.bytes.specs.Bytes.{slice}
+use Rattle.byte_search.specs.Search.{slice}
 use Rattle.reason.specs.declared.Reason.{Reason}
 use Rattle.reason.specs.declared.Reason.TheVariants.{NoRegister, NoAddress, NoByte, NoValue, BitTwice, NoMode, NoModule, NoOscillator, NoBitNumber}
 use Rattle.words.specs.declared.Word.{Word}

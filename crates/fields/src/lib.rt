@@ -1,4 +1,6 @@
 // What each word of a call means.
+#![tactic(auto)]
+
 ghost use Rattle.std.specs.Prelude.{◌≡◌, ◌≤◌, length};
 ghost use Rattle.fields.specs.Fields.{register_in, value_in, bits_of, fault_at, address_in, byte_in, bit_in, choice_of, mode_in, module_in, oscillator_in};
 

@@ -1,5 +1,7 @@
 // The flash: its registers and the page index of the charge store. What each call does to them and to the lent array, charges and event
 // words is in the definitions; the functions are in the crates above.
+#![tactic(auto)]
+
 use cell::PAGES;
 use registers::Registers;
 use time::Time;

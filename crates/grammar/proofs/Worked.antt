@@ -1,7 +1,7 @@
 -- The worked lines hold of the definition, by computation. Assumes nothing.
 use mathlib.Core.Path.{refl}
 use Rattle.time.specs.Raw.{raw, span, instant, duration, micros, plus, added}
-use Rattle.bytes.specs.Bytes.{slice, index_of, index_after}
+use Rattle.byte_search.specs.Search.{slice, index_of, index_after}
 use Rattle.words.specs.Text.{spells, split_before, split, place_of}
 use Rattle.words.specs.Words.{leading, word_at}
 use Rattle.names.specs.Names.{call_named, register_named, bit_named}

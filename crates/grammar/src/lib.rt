@@ -1,4 +1,6 @@
 // A line of a history.
+#![tactic(auto)]
+
 ghost use Rattle.std.specs.Prelude.{◌≡◌, ◌≤◌, length};
 ghost use Rattle.grammar.specs.Grammar.{line_for, call_line, line_of};
 

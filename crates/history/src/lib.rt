@@ -1,4 +1,6 @@
 // A line of a history is parsed, and its call is put among those that wait for the replay.
+#![tactic(auto)]
+
 ghost use Rattle.std.specs.Prelude.{◌≡◌, [], ◌∷◌, ◌+◌, ◌*◌, ◌≤◌, length};
 ghost use Rattle.std.proofs.lemmas.List.Edits.{sets};
 ghost use Rattle.history.specs.History.{time_after, waits, Takes};

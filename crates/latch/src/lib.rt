@@ -1,4 +1,6 @@
 // The data write: a byte for the latch, or the start of a verify sense.
+#![tactic(auto)]
+
 ghost use Rattle.std.specs.Prelude.{◌≡◌};
 ghost use Rattle.time.specs.Raw.{BeforeLastSecond};
 ghost use Rattle.registers.specs.Latch.{takes_data, latched, sense_pending, data_taken, data_write, write8};

@@ -1,5 +1,6 @@
 // The record: rows of numbers, one after the other. What its bytes are and which are refused is in the definitions; the functions are in
 // the crates above.
+#![tactic(auto)]
 
 // Bytes of the record, and where each row begins after the first.
 pub const RECORD_LEN: usize = 1042;

@@ -1,5 +1,6 @@
 // Calls and looks over lent memory: their checks in document 01's order, and the new array. What each does and answers is in the
 // definitions; the crates `ask` and `see` have the functions. None that a host calls asks for anything.
+#![tactic(auto)]
 
 pub mod checking;
 pub mod making;

@@ -1,4 +1,6 @@
 // Light calls, register writes without an open pulse, run one after the other on the few registers that they change.
+#![tactic(auto)]
+
 pub mod writing;
 
 ghost use Rattle.std.specs.Prelude.{◌≡◌, cond, ◌*◌, ◌≤◌, length};

@@ -1,4 +1,6 @@
 // Calls as numbers: kind × 2^24 + first × 2^8 + second.
+#![tactic(auto)]
+
 ghost use Rattle.std.specs.Prelude.{◌≡◌, ◌+◌, ◌*◌, ◌<◌};
 ghost use Rattle.layout.specs.Layout.{flag_byte};
 ghost use Rattle.listing.specs.Calls.{request_by, request_in, packed, word_of};

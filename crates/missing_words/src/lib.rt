@@ -1,4 +1,6 @@
 // What is missing where a line ends too early. Words are put as they are: nothing is filled in.
+#![tactic(auto)]
+
 ghost use Rattle.text.specs.Puts.{Ends};
 
 use reason::Reason;

@@ -11,7 +11,7 @@ use lib.Dec.{eqb}
 use lib.ListN.{length, take, drop, get_or}
 use lib.Seq.{drop-drop, take-take, take-add, drop_at, length-take-le, length-slice, slice-cons, slice_empty}
 use borrow.Author.Tests.{lt-ltb, le-ltb}
-use Rattle.bytes.specs.Bytes.{slice, index_of}
+use Rattle.byte_search.specs.Search.{slice, index_of}
 use Rattle.reason.specs.declared.Reason.TheVariants.{TooManyDecimals}
 use Rattle.moments.specs.declared.Before.{Before}
 use Rattle.moments.specs.declared.Part.{Part}

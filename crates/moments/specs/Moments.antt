@@ -2,7 +2,7 @@
 -- raw units; and after a `+` any of these as the length since the time of the line before.
 -- Assumes nothing.
 use Rattle.std.specs.Prelude.{ℕ, suc, ◌+◌, ◌-◌, ◌*◌, ◌/◌, ◌^◌, List, [], ◌∷◌, Bool, false, cond, ◌&&◌, length, take, drop, ltb, eqb}
-use Rattle.bytes.specs.Bytes.{index_of}
+use Rattle.byte_search.specs.Search.{index_of}
 use Rattle.time.specs.Raw.{micros, micros_per_second, added}
 use Rattle.time.specs.declared.Sum.{Sum}
 use Rattle.time.specs.declared.Sum.TheVariants as sum

@@ -1,6 +1,8 @@
 // A time as a history writes it.
+#![tactic(auto)]
+
 ghost use Rattle.std.specs.Prelude.{◌≡◌, ℕ, ◌-◌, ◌^◌, ◌≤◌, ◌<◌, length};
-ghost use Rattle.bytes.specs.Bytes.{slice};
+ghost use Rattle.byte_search.specs.Search.{slice};
 ghost use Rattle.moments.specs.Moments.{judged, part_of, seconds, exactly, in_micros, with_decimals, length_of, is_relative, in_range, at_length, after_length, moment_of, exact_of};
 
 use digits::Number;
@@ -167,11 +169,11 @@ fn length_in(line: &[u8], from: usize, to: usize) -> Length
     requires { (from ≤ to) × (to ≤ length line.now) }
     ensures { result ≡ length_of (slice from to line.now) }
 {
-    let colon = bytes::scan::find(line, from, to, COLON);
+    let colon = byte_search::find(line, from, to, COLON);
     if colon < to {
         return exactly(part_in(line, from, colon), part_in(line, colon + 1, to));
     }
-    let point = bytes::scan::find(line, from, to, POINT);
+    let point = byte_search::find(line, from, to, POINT);
     if point < to {
         return with_decimals(part_in(line, from, point), line, point + 1, to);
     }

@@ -9,7 +9,7 @@ use borrow.Author.Tests.{eqb-true, eqb-false, ltb-true, ltb-false}
 use lib.Dec.{eqb, ltb}
 use lib.ListN.{length}
 use lib.Seq.{length-slice, take-length}
-use Rattle.bytes.specs.Bytes.{slice, index_of, index_after}
+use Rattle.byte_search.specs.Search.{slice, index_of, index_after}
 use Rattle.control.specs.Bits.{has}
 use Rattle.words.specs.Text.{spells, split}
 use Rattle.names.specs.declared.Bits.TheVariants as bits

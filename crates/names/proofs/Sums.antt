@@ -8,7 +8,7 @@ use native.Mathlib.Omega.{arith}
 use borrow.Author.Tests.{ne_eqb, eqb-false}
 use lib.Dec.{eqb}
 use lib.ListN.{length}
-use Rattle.bytes.specs.Bytes.{slice, index_of}
+use Rattle.byte_search.specs.Search.{slice, index_of}
 use Rattle.control.specs.Bits.{has, FLMCR1, FLMCR2, FLPWCR, EBR1, FENR}
 use Rattle.words.specs.Text.{spells, split}
 use Rattle.words.proofs.Parts.{split-first, others-more, others-none}

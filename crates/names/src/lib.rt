@@ -1,6 +1,8 @@
 // The names of a history: what a stretch of a line names.
+#![tactic(auto)]
+
 ghost use Rattle.std.specs.Prelude.{◌≡◌, ◌≤◌, length};
-ghost use Rattle.bytes.specs.Bytes.{slice};
+ghost use Rattle.byte_search.specs.Search.{slice};
 ghost use Rattle.words.specs.Text.{place_of};
 ghost use Rattle.names.specs.Names.{call_named, register_named, modes, modules, oscillators};
 

@@ -1,12 +1,12 @@
 // The value of a register as names of its bits.
 ghost use Rattle.std.specs.Prelude.{◌≡◌, ◌≤◌, length};
-ghost use Rattle.bytes.specs.Bytes.{slice};
+ghost use Rattle.byte_search.specs.Search.{slice};
 ghost use Rattle.names.specs.Names.{named, flag_named, control_bits, erase_bits, bit_named};
 ghost use Rattle.names.specs.Values.{bits_named};
 
 use crate::Bits;
 use bits::{E, EBR1, ESU, EV, FENR, FLAG, FLMCR1, FLMCR2, FLPWCR, P, PSU, PV, SWE, has};
-use bytes::scan::find;
+use byte_search::find;
 use words::spelling::{place, spells};
 
 fn control_bit(line: &[u8], from: usize, to: usize) -> u8

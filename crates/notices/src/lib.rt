@@ -1,4 +1,6 @@
 // What the program says of its options and files where it can't begin, each with the offending word where there is one.
+#![tactic(auto)]
+
 ghost use Rattle.notices.specs.Notices.{no_option, no_word_after, no_block, no_address, no_time, no_history, second_history, image_length, two_ranges, ends_early, not_opened, not_written};
 ghost use Rattle.text.specs.Puts.{Puts};
 

@@ -10,7 +10,7 @@ use borrow.Author.Tests.{eq-eqb, ne_eqb}
 use lib.Dec.{eqb}
 use lib.ListN.{length, get_or, drop, drop_of_length-le}
 use lib.Seq.{drop-cons, slice-cons, slice_empty}
-use Rattle.bytes.specs.Bytes.{slice}
+use Rattle.byte_search.specs.Search.{slice}
 use Rattle.words.specs.Text.{spells, place_of}
 use Rattle.options.specs.Arguments.{word, dashed, words_from, take_all, step_at}
 use Rattle.options.specs.declared.Given.{Given}

@@ -1,4 +1,6 @@
 // The arguments of the program: what they ask for, or what is wrong with them.
+#![tactic(auto)]
+
 ghost use Rattle.options.specs.Inside.{Answer};
 
 use moments::Before;

@@ -1,4 +1,6 @@
 // One accepted call: what it does to the state and to the lent array, charges and event words, and what it answers.
+#![tactic(auto)]
+
 ghost use Rattle.std.specs.Prelude.{◌≡◌, true, ◌<◌, ◌≤◌, length};
 ghost use Rattle.time.specs.Raw.{BeforeLastSecond};
 ghost use Rattle.registers.specs.Pulses.{pulse};

@@ -1,5 +1,7 @@
 // What a look shows of all pages or all cells at once, over lent memory: the checks of a look, then that the output has room, then the
 // answer. Nothing is kept.
+#![tactic(auto)]
+
 pub mod cells;
 pub mod marks;
 pub mod shades;

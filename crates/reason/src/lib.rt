@@ -1,4 +1,6 @@
 // Why a line of a history can't be taken.
+#![tactic(auto)]
+
 #[derive(Clone, Copy)]
 pub enum Reason {
     // The time.

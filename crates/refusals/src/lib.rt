@@ -1,4 +1,6 @@
 // Refusals in document 01's own words. They are put as they are, since one of them has a mark of templates in it.
+#![tactic(auto)]
+
 ghost use Rattle.text.specs.Puts.{Ends};
 
 use text::putting::{put_byte, put_text};

@@ -1,5 +1,7 @@
 // What of the flash depends on no charge: its registers, the latch, the supply and the waits, and the pulse that they open. The chip
 // and the ledger share these rules.
+#![tactic(auto)]
+
 pub mod pulses;
 
 ghost use Rattle.std.specs.Prelude.{◌≡◌};

@@ -1,4 +1,6 @@
 // The replay of a list of calls on lent memory: the record is read and written once, and the calls run on the state by value.
+#![tactic(auto)]
+
 ghost use Rattle.std.specs.Prelude.{◌≡◌};
 ghost use Rattle.listing.specs.Replaying.{end_in, asks, Replays};
 

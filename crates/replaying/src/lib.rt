@@ -1,4 +1,6 @@
 // The replay for C and Rust programs, in an archive of its own: the host interface has one call a function.
+#![tactic(auto)]
+
 ghost use Rattle.listing.specs.Replaying.{asks, Replays};
 
 use replay::replay;

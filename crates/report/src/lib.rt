@@ -1,4 +1,6 @@
 // The lines of the report that the program prints of its work, and the head of its picture. What does not fit is cut off.
+#![tactic(auto)]
+
 ghost use Rattle.report.specs.Report.{call_lines, pulse_line, page_line, legible_line, verdict_line, picture_head};
 ghost use Rattle.text.specs.Puts.{Puts};
 

@@ -1,4 +1,6 @@
 // Reading a snapshot: it is gone through twice, first to judge it, then to take it, so that a refusal changes nothing.
+#![tactic(auto)]
+
 pub mod loading;
 
 ghost use Rattle.std.specs.Prelude.{◌≡◌, length};

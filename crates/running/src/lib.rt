@@ -1,4 +1,6 @@
 // Calls of a list on the state that is held, until one stops the replay.
+#![tactic(auto)]
+
 ghost use Rattle.std.specs.Prelude.{◌≡◌, ◌+◌, ◌*◌, ◌<◌, ◌≤◌, length};
 ghost use Rattle.layout.specs.Whole.{TimeFits};
 ghost use Rattle.lent.specs.Memory.{memory_of};

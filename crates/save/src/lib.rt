@@ -1,4 +1,6 @@
 // Writing a snapshot.
+#![tactic(auto)]
+
 ghost use Rattle.std.specs.Prelude.{◌≡◌, true, [], ◌++◌, ℕ, suc, ◌+◌, ◌*◌, ◌<◌, ◌≤◌, length, take};
 ghost use Rattle.cell.specs.Cell.{at, pages, array_bytes, array_cells};
 ghost use Rattle.settle.specs.Pages.{opened, slots_sound};

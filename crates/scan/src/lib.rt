@@ -1,4 +1,6 @@
 // The first field of a snapshot that is refused, in reading order. Nothing is kept but the page index.
+#![tactic(auto)]
+
 ghost use Rattle.std.specs.Prelude.{◌≡◌, ◌+◌, ◌*◌, ◌/◌, ◌^◌, ◌<◌, ◌≤◌, [], length, if◌then◌else◌, nat_le, nat_lt};
 ghost use Rattle.cell.specs.Cell.{FULL, pages};
 ghost use Rattle.flash.specs.Chip.{no_pages};

@@ -1,4 +1,6 @@
 // Looking over lent memory: the checks that concern what is taken, then the answer. Nothing is kept.
+#![tactic(auto)]
+
 ghost use Rattle.std.specs.Prelude.{◌≡◌, length};
 ghost use Rattle.layout.specs.Layout.{record_length};
 ghost use Rattle.lent.specs.Looked.{Shown, register_refusal, register_answer, normal_refusal, normal_answer, sized_refusal, peek_refusal, peek_answer, charge_refusal, charge_answer, blank_refusal, blank_answer, image_refusal, image_left};

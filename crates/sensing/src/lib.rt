@@ -1,6 +1,8 @@
 // What cells sense: one cell, the eight of a byte, the 128 bytes of a page. In every mode a cell senses 1 below one number, its
 // ceiling: its limit, or one more where the limit itself senses 1. The ceilings of 256 cells are worked out once and lent to what
 // senses many.
+#![tactic(auto)]
+
 ghost use Rattle.std.specs.Prelude.{◌≡◌, ◌+◌, ◌-◌, ◌*◌, ◌<◌, ◌≤◌, length};
 ghost use Rattle.cell.specs.Cell.{ceiling_of, ceiling_table, from_bits, tabulate, sensed_cell, sensed_byte, sensed_page, page_bytes, page_cells, array_bytes, at};
 

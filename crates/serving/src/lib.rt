@@ -1,4 +1,6 @@
 // Calls that wait are run, and what they came to is noted: counted, said or complained of.
+#![tactic(auto)]
+
 ghost use Rattle.std.specs.Prelude.{◌≡◌, false, ◌-◌, ◌*◌, ◌+◌, ◌≤◌, ◌<◌, length};
 ghost use Rattle.course.specs.Desk.{desk, made, noted};
 ghost use Rattle.serving.specs.Noting.{asking_at, passed, noted_at_once};

@@ -1,4 +1,6 @@
 // The history's file is read in pieces and run step by step, so memory does not grow with it. What each step said is written at once.
+#![tactic(auto)]
+
 ghost use Rattle.std.specs.Prelude.{◌≡◌, true, false};
 ghost use Rattle.course.specs.Desk.{desk};
 ghost use Rattle.session.specs.Going.{beginning_with, ReadWhole};

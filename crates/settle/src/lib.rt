@@ -1,3 +1,5 @@
 // Settling: pages and their slots in the charge store. What an exposure does and which event words it gives is in the definitions; the
 // settle over lent memory is the crate `settling`.
+#![tactic(auto)]
+
 pub mod pages;

@@ -1,5 +1,7 @@
 // Settling over lent memory: an exposure opens and charges the range's pages, then its bytes are sensed anew; a changed byte gives an
 // event word.
+#![tactic(auto)]
+
 ghost use Rattle.std.specs.Prelude.{◌≡◌, true, ◌<◌, ◌≤◌, ◌+◌, ◌*◌, ◌-◌, length};
 ghost use Rattle.std.proofs.lemmas.List.Edits.{sets};
 ghost use Rattle.time.specs.Raw.{span};

@@ -1,4 +1,6 @@
 // Parts of slices that are there for any numbers.
+#![tactic(auto)]
+
 ghost use Rattle.std.specs.Prelude.{◌≡◌, take};
 
 // The first n bytes of a slice, all of it where it has fewer.

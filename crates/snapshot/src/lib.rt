@@ -1,4 +1,5 @@
 // Snapshots: the array, its charge pages and its state as one string of bytes, in the Borsh format; and whether a state is valid.
+#![tactic(auto)]
 
 ghost use Rattle.std.specs.Prelude.{◌≡◌, ◌≤◌};
 ghost use Rattle.cell.specs.Cell.{pages};

@@ -1,6 +1,8 @@
 // A run goes step by step on lent memory: bytes are moved to a line, a whole line is taken, the calls that wait are run up to one that has
 // something to tell, the line that is due is done. After each step the caller writes what it said. How the text is cut into pieces makes no
 // difference.
+#![tactic(auto)]
+
 ghost use Rattle.std.specs.Prelude.{◌≡◌, false, ◌≤◌, length};
 ghost use Rattle.course.specs.Desk.{desk};
 ghost use Rattle.steps.specs.Stepping.{Sound, Steps};

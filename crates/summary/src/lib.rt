@@ -1,4 +1,6 @@
 // The report of a run, put together in a lent slice. What does not fit is cut off at the slice's end, so no function asks for room.
+#![tactic(auto)]
+
 ghost use Rattle.std.specs.Prelude.{◌≡◌, false};
 ghost use Rattle.flash.specs.Looking.{image_at};
 ghost use Rattle.lent.specs.Memory.{chip_in};

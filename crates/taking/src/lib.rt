@@ -1,4 +1,6 @@
 // A line of a history that was read whole: its call waits, or it is due.
+#![tactic(auto)]
+
 ghost use Rattle.std.specs.Prelude.{◌≡◌};
 ghost use Rattle.taking.specs.Taking.{Reading, LineTaken, is_due, due_of, place_after};
 

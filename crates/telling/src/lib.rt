@@ -1,5 +1,7 @@
 // What the program says and which files it reads and writes besides the history: each sentence is put together by the
 // crates below and written here.
+#![tactic(auto)]
+
 pub mod beginning;
 pub mod files;
 pub mod saying;

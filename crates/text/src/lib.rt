@@ -1,5 +1,7 @@
 // Text put together in a lent slice, from templates with marks for numbers and a word. What does not fit is cut off at the
 // slice's end, so no function asks for room.
+#![tactic(auto)]
+
 ghost use Rattle.std.specs.Prelude.{◌≡◌, cond, [], get_or};
 ghost use Rattle.text.specs.Text.{filled};
 ghost use Rattle.text.specs.Puts.{Puts};

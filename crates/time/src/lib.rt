@@ -1,5 +1,7 @@
 // Instants and lengths of time, in raw units of 2^-64 s. `u128` of the original is two 64-bit halves here:
 // whole seconds and a fraction.
+#![tactic(auto)]
+
 ghost use Rattle.std.specs.Prelude.{◌≡◌, ◌<◌, ltb, leb, eqb};
 ghost use Rattle.time.specs.Raw.{raw, span, later, added, after, since, micros, micros_per_second, BeforeLastSecond};
 

@@ -1,4 +1,6 @@
 // Whether a state is one that a snapshot may hold at a time.
+#![tactic(auto)]
+
 ghost use Rattle.std.specs.Prelude.{◌≡◌};
 ghost use Rattle.lent.specs.Looked.{Shown};
 ghost use Rattle.snapshot.specs.Asked.{pending_placed, valid, valid_refusal, valid_answer};

@@ -1,5 +1,7 @@
 // Replays the Rust's answers: reads the list that was recorded from the original, runs each of its calls on the proved functions, and
 // says for each group whether every answer, and all that it left, is as recorded.
+#![tactic(auto)]
+
 mod calls;
 mod left;
 mod looks;

@@ -1,4 +1,6 @@
 // What the desk counts: legible pages of an image, by block, and pulses that ended in each block.
+#![tactic(auto)]
+
 pub mod blocks;
 pub mod legible;
 pub mod pulses;

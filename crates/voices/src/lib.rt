@@ -1,4 +1,6 @@
 // What a run says of a call that was made, and of a look. What does not fit is cut off.
+#![tactic(auto)]
+
 ghost use Rattle.std.specs.Prelude.{List, ℕ, take};
 ghost use Rattle.text.specs.Puts.{Puts};
 ghost use Rattle.course.specs.Desk.{desk, events_said, value_said, call_said, looked_refusal, looked, Leaves};

@@ -1,4 +1,6 @@
 // The waits, in microseconds, and the instants that they set.
+#![tactic(auto)]
+
 ghost use Rattle.std.specs.Prelude.{◌≡◌, ◌<◌};
 ghost use Rattle.time.specs.Raw.{BeforeLastSecond, micros_per_second};
 ghost use Rattle.control.specs.Waits.{raised, renewed, recovery_after, verify_ready_after, trip_wait};

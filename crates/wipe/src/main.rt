@@ -1,4 +1,6 @@
 // The program for the support desk: the verdict on a history. The work is done by `desk`; here its arguments are collected.
+#![tactic(auto)]
+
 ghost use Rattle.std.specs.Prelude.{◌<◌};
 
 use libc::STDERR_FILENO;

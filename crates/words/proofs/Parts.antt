@@ -10,7 +10,7 @@ use borrow.Author.Tests.{lt-ltb, le-ltb}
 use lib.Dec.{eqb, ltb, leb-suc-suc}
 use lib.ListN.{length, take, drop}
 use lib.Seq.{take-nil, take-take, drop-drop, length-slice}
-use Rattle.bytes.specs.Bytes.{slice, index_of, index_after}
+use Rattle.byte_search.specs.Search.{slice, index_of, index_after}
 use Rattle.words.specs.Text.{split, split_before}
 
 -- the parts after the first, by where the first ends

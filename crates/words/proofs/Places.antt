@@ -6,7 +6,7 @@ use mathlib.Core.List.{List}
 use mathlib.Core.Path.{◌≡◌, sym}
 use native.Mathlib.Omega.{arith}
 use lib.ListN.{length, take, drop}
-use Rattle.bytes.specs.Bytes.{slice, index_of}
+use Rattle.byte_search.specs.Search.{slice, index_of}
 use Rattle.words.specs.Text.{spells, split, place_of}
 use Rattle.words.proofs.Parts.{lent-part, split-first, others-more, others-none}
 

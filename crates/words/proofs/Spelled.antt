@@ -9,7 +9,7 @@ use borrow.Author.Tests.{eq-eqb, ne_eqb}
 use lib.Dec.{eqb}
 use lib.ListN.{length, get_or, drop}
 use lib.Seq.{drop-cons, drop-length, slice-cons, slice_empty}
-use Rattle.bytes.specs.Bytes.{slice}
+use Rattle.byte_search.specs.Search.{slice}
 use Rattle.words.specs.Text.{capital, spells}
 
 module _ (name line : List ℕ) (i j to : ℕ) (named : i < length name) (before : j < to) (inside : to ≤ length line) where

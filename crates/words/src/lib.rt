@@ -1,4 +1,6 @@
 // Words of a line, and whether a stretch of a line spells a name.
+#![tactic(auto)]
+
 ghost use Rattle.std.specs.Prelude.{◌≡◌, ◌≤◌, length};
 ghost use Rattle.words.specs.Words.{blank, in_word, RunEnd, NextWord};
 

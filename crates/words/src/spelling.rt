@@ -1,9 +1,9 @@
 // Whether a stretch of a line spells a name, and which of several it spells.
 ghost use Rattle.std.specs.Prelude.{◌≡◌, ◌≤◌, length};
-ghost use Rattle.bytes.specs.Bytes.{slice};
+ghost use Rattle.byte_search.specs.Search.{slice};
 ghost use Rattle.words.specs.Text.{capital, spells, split, place_of};
 
-use bytes::scan::find;
+use byte_search::find;
 
 fn capital(b: u8) -> u8
     ensures { result ≡ capital b }

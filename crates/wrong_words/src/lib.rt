@@ -1,4 +1,6 @@
 // What is wrong with a word of a line. Each function says it of the reasons of one group.
+#![tactic(auto)]
+
 ghost use Rattle.text.specs.Puts.{Ends};
 
 use reason::Reason;

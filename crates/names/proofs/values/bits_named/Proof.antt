@@ -3,7 +3,7 @@
 use Prim.Native.Nat.{◌≤◌, ◌<◌, ◌-◌}
 use mathlib.Core.Path.{◌≡◌, refl, sym, ◌∙◌}
 use borrow.Author.Rules.{rules}
-use Rattle.bytes.specs.Bytes.{slice}
+use Rattle.byte_search.specs.Search.{slice}
 use Rattle.words.specs.Text.{split}
 use Rattle.names.specs.Values.{bits_from, bits_named}
 use Rattle.names.proofs.Sums.{bit-within, sum-not, sum_twice, sum-last, sum_more}

@@ -7,7 +7,7 @@ use native.Mathlib.Omega.{arith}
 use borrow.Author.Rules.{rules}
 use lib.ListN.{length}
 use lib.Seq.{take-length}
-use Rattle.bytes.specs.Bytes.{slice}
+use Rattle.byte_search.specs.Search.{slice}
 use Rattle.words.specs.Text.{split, place_of}
 use Rattle.words.proofs.Places.{place_from, place_here, place-last, place-more}
 use Rattle.words.proofs.spelling.place.Statement.{statement}

@@ -7,7 +7,7 @@ use native.Mathlib.Omega.{arith}
 use borrow.Author.Rules.{rules}
 use lib.ListN.{length, drop}
 use lib.Seq.{length-slice}
-use Rattle.bytes.specs.Bytes.{slice}
+use Rattle.byte_search.specs.Search.{slice}
 use Rattle.words.specs.Text.{spells}
 use Rattle.words.proofs.Spelled.{spells-same, spells-other, spells-end, spells-length}
 use Rattle.words.proofs.spelling.spells.Statement.{statement}

@@ -1,0 +1,7 @@
+-- `access::write_control` meets its contract: the two calls compose as the definitions do.
+-- Assumes nothing.
+use borrow.Author.Rules.{rules}
+use Rattle.access.proofs.write_control.Goals as goal
+
+pub returns : goal.returns
+returns c = rw (c.control_set.ensures, c.control_value.ensures)

@@ -1,0 +1,97 @@
+-- `charging::charge` meets its contract. The invariant of both loops: the cells passed are moved by the clipped amount, and the others are
+-- as they were; at the end the clipped amount is replaced by the exposure's, cell by cell.
+-- Assumes nothing.
+use Prim.Native.Nat.{ℕ, ◌+◌, ◌<◌, ◌≤◌, ◌-◌, ◌*◌, ◌^◌, min}
+use mathlib.Core.List.{List}
+use mathlib.Core.Path.{◌≡◌, refl, sym, ◌∙◌}
+use native.Mathlib.Nat.{add-zero}
+use native.Mathlib.Omega.{arith}
+use lib.ListN.{length, length-set}
+use Rattle.time.specs.Raw.{span}
+use Rattle.cell.specs.Cell.{at, mapi, rate, moved, page_bit, charged_page}
+use Rattle.cell.specs.declared.Direction.{Direction}
+use Rattle.cell.proofs.Maps.{mapi-same}
+use Rattle.cell.proofs.Partly.{partly, partly-turn, partly-all, Further, cell-bit}
+use Rattle.cell.proofs.Rule.{clipped-exposes}
+use Rattle.charging.proofs.charge.Invariants.{ruled}
+use Rattle.charging.proofs.charge.Goals as goal
+
+clipped-page :
+    (d : Direction) (latch : List ℕ) (l a : ℕ) (qs : List ℕ) → a ≡ min (rate d * l) (2 ^ 64 - 1) → ((k : ℕ) → at qs k < 2 ^ 64)
+    → mapi (ruled d latch a) 0 qs ≡ charged_page d latch l qs
+unfolding charged_page
+clipped-page d latch l a qs e h = mapi-same _ _ qs (λ k g. clipped-exposes d (page_bit latch k) l a (at qs k) e (h k))
+
+pub loop-i-init : goal.loop-i-init
+loop-i-init c = (omega arith, c.requires, refl)
+
+pub bounds-latch-i : goal.bounds-latch-i
+bounds-latch-i c = omega arith
+
+pub loop-k-init : goal.loop-k-init
+loop-k-init c = (omega arith, c.loop-i.invariant.1, λ xs e. rw add-zero e)
+
+pub overflow_mul-j : goal.overflow_mul-j
+overflow_mul-j c = omega arith
+
+pub overflow_add-j : goal.overflow_add-j
+overflow_add-j c = omega arith
+
+pub offset_bounds-cells-j : goal.offset_bounds-cells-j
+offset_bounds-cells-j c = omega arith
+
+pub bounds-cells-j : goal.bounds-cells-j
+bounds-cells-j c = omega arith
+
+pub bit-requires : goal.bit-requires
+bit-requires c = omega arith
+
+pub offset_bounds-cells-j-in-loop-k : goal.offset_bounds-cells-j-in-loop-k
+offset_bounds-cells-j-in-loop-k c = omega arith
+
+pub bounds-cells-j-in-loop-k : goal.bounds-cells-j-in-loop-k
+bounds-cells-j-in-loop-k c = omega arith
+
+pub overflow_add-k : goal.overflow_add-k
+overflow_add-k c = omega arith
+
+pub loop-k-smaller : goal.loop-k-smaller
+loop-k-smaller c = omega arith
+
+pub loop-k-preserved : goal.loop-k-preserved
+loop-k-preserved c =
+        let l = c.loop-k in
+    let i = c.loop-i.i in
+    let n : 8 * i + (l.k + 1) ≡ 8 * i + l.k + 1 = omega arith in (
+      omega arith,
+      simp length-set l.invariant.1,
+      λ xs e.
+          rw n (partly-turn _ (8 * i + l.k) xs _ _ (l.invariant.2 xs e)
+          (c.moved.ensures ∙ rw (c.bit.ensures, cell-bit _ i l.k (omega arith)))),
+    )
+
+pub overflow_add-i : goal.overflow_add-i
+overflow_add-i c = omega arith
+
+pub loop-i-smaller : goal.loop-i-smaller
+loop-i-smaller c = omega arith
+
+pub loop-i-preserved : goal.loop-i-preserved
+loop-i-preserved c =
+    let l = c.loop-k in
+    let o = c.loop-i in
+    let e : 8 * (o.i + 1) ≡ 8 * o.i + l.k = omega arith in
+    (omega arith, l.invariant.1, rw e (l.invariant.2 _ o.invariant.2))
+
+pub shape_of-cells : goal.shape_of-cells
+shape_of-cells c = c.loop-i.invariant.1 ∙ sym c.requires
+
+pub returns : goal.returns
+returns c =
+    let x = c.args in
+    let l = c.loop-i in
+    let e : 8 * l.i ≡ 1024 = omega arith in
+    l.invariant.2
+    ∙ partly-all _ _ _ (e ∙ sym c.requires)
+    ∙ clipped-page x.direction x.latch.now (span x.exposure) _ x.cells.now c.amount-by.ensures
+    (λ k. omega (arith, c.slice_known-1.given k))

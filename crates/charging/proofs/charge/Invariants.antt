@@ -1,0 +1,34 @@
+-- `charging::charge` meets its contract. The invariant of both loops: the cells passed are moved by the clipped amount, and the others are
+-- as they were; at the end the clipped amount is replaced by the exposure's, cell by cell.
+-- Assumes nothing.
+use Prim.Native.Nat.{ℕ, ◌+◌, ◌<◌, ◌≤◌, ◌-◌, ◌*◌, ◌^◌, min}
+use mathlib.Core.List.{List}
+use mathlib.Core.Path.{◌≡◌, refl, sym, ◌∙◌}
+use native.Mathlib.Nat.{add-zero}
+use native.Mathlib.Omega.{arith}
+use lib.ListN.{length, length-set}
+use Rattle.time.specs.Raw.{span}
+use Rattle.cell.specs.Cell.{at, mapi, rate, moved, page_bit, charged_page}
+use Rattle.cell.specs.declared.Direction.{Direction}
+use Rattle.cell.proofs.Maps.{mapi-same}
+use Rattle.cell.proofs.Partly.{partly, partly-turn, partly-all, Further, cell-bit}
+use Rattle.cell.proofs.Rule.{clipped-exposes}
+use Rattle.charging.proofs.charge.Given as goal
+
+-- the cell j of a page with charge q, moved by an amount
+abbrev pub ruled : Direction → List ℕ → ℕ → ℕ → ℕ → ℕ
+ruled d latch a j q = moved d (page_bit latch j) a q
+
+abbrev pub invariant-loop-k : goal.invariant-loop-k
+invariant-loop-k l =
+    (l.k ≤ 8) × (length l.cells ≡ 1024) × Further (ruled l.direction l.latch l.by) (8 * l.i) (8 * l.i + l.k) l.initial.cells l.cells
+
+abbrev pub decreases-loop-k : goal.decreases-loop-k
+decreases-loop-k l = 8 - l.k
+
+abbrev pub invariant-loop-i : goal.invariant-loop-i
+invariant-loop-i l =
+    (l.i ≤ 128) × (length l.cells ≡ 1024) × (l.cells ≡ partly (ruled l.direction l.latch l.by) (8 * l.i) l.initial.cells)
+
+abbrev pub decreases-loop-i : goal.decreases-loop-i
+decreases-loop-i l = 128 - l.i

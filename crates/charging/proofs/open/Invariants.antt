@@ -1,0 +1,28 @@
+-- `charging::open` meets its contract. The invariant of both loops: the cells passed have their first charges, and the others are as
+-- they were.
+-- Assumes nothing.
+use Prim.Native.Nat.{ℕ, ◌+◌, ◌*◌, ◌≤◌, ◌-◌}
+use mathlib.Core.List.{List}
+use mathlib.Core.Path.{◌≡◌, refl, sym, ◌∙◌}
+use native.Mathlib.Nat.{add-zero}
+use native.Mathlib.Omega.{arith}
+use lib.ListN.{length, length-set}
+use Rattle.cell.specs.Cell.{opened_page, page_bit, first_charge}
+use Rattle.cell.proofs.Partly.{partly, partly-turn, partly-all, Further, cell-bit}
+use Rattle.charging.proofs.open.Given as goal
+
+-- the first charge of the cell j of a page
+abbrev pub first : List ℕ → ℕ → ℕ → ℕ
+first bytes j q = first_charge (page_bit bytes j)
+
+abbrev pub invariant-loop-k : goal.invariant-loop-k
+invariant-loop-k l = (l.k ≤ 8) × (length l.cells ≡ 1024) × Further (first l.bytes) (8 * l.i) (8 * l.i + l.k) l.initial.cells l.cells
+
+abbrev pub decreases-loop-k : goal.decreases-loop-k
+decreases-loop-k l = 8 - l.k
+
+abbrev pub invariant-loop-i : goal.invariant-loop-i
+invariant-loop-i l = (l.i ≤ 128) × (length l.cells ≡ 1024) × (l.cells ≡ partly (first l.bytes) (8 * l.i) l.initial.cells)
+
+abbrev pub decreases-loop-i : goal.decreases-loop-i
+decreases-loop-i l = 128 - l.i

@@ -1,0 +1,11 @@
+-- `checks::in_range` meets its contract: what is read are the numbers of the record's rows.
+-- Assumes nothing.
+use Rattle.layout.proofs.Widths.{word-one}
+use Rattle.layout.specs.Layout.{rows_in, in_range, row}
+use borrow.Author.Rules.{rules}
+use Rattle.checks.proofs.in_range.Goals as goal
+
+pub returns : goal.returns
+unfolding rows_in in_range row
+returns c =
+                let s = c.args.«record».now in rw (c.placed-2.ensures, c.placed.ensures, c.get16-address.ensures, c.get16-page.ensures, ← (word-one s 0))

@@ -1,0 +1,29 @@
+-- `checks::legible` meets its contract: what is read are the record's rows, but for the halves, of which it reads the last instant's.
+-- Assumes nothing.
+use Rattle.settle.specs.Pages.{slots_sound}
+use Rattle.cell.specs.Cell.{at}
+use Prim.Native.Nat.{ℕ}
+use mathlib.Core.Bool.{Bool, ◌&&◌}
+use mathlib.Core.List.{List}
+use mathlib.Core.Path.{◌≡◌, refl}
+use Rattle.layout.specs.Layout.{row, time_of, head_known, nothing_clear, rows_in, legible}
+use borrow.Author.Rules.{rules}
+use Rattle.checks.proofs.legible.Goals as goal
+
+-- the last instant of eight, by its halves
+last-whole : (xs : List ℕ) → at (row 2 8 126 xs) 0 ≡ at (row 16 8 14 xs) 14
+unfolding row
+last-whole xs = refl
+
+last-part : (xs : List ℕ) → at (row 2 8 126 xs) 1 ≡ at (row 16 8 14 xs) 15
+unfolding row
+last-part xs = refl
+
+told : (xs h a v n : List ℕ) (p q r : Bool) → p ≡ head_known h → q ≡ nothing_clear (at h 9) (at a 1) (time_of v 0) → r ≡ slots_sound n
+    → h ≡ row 10 1 0 xs → a ≡ row 2 2 10 xs → v ≡ row 2 8 126 xs → n ≡ row 384 2 274 xs → (p && q && r) ≡ legible (rows_in xs)
+unfolding legible rows_in
+told xs h a v n p q r ep eq er eh ea ev en = rw (ep, eq, er, eh, ea, ev, en, last-whole xs, last-part xs)
+
+pub returns : goal.returns
+returns c =
+                        told _ _ _ _ _ _ _ _ c.head_known.ensures c.nothing_clear.ensures c.slots_sound.ensures c.get_bytes.ensures c.get_words.ensures c.get_halves.ensures c.get_words-2.ensures

@@ -1,0 +1,19 @@
+-- `coding::put_scalars` meets its contract: three rows, each written after what stands already.
+-- Assumes nothing.
+use mathlib.Core.List.{[], ◌++◌}
+use mathlib.Core.Path.{refl}
+use Rattle.layout.proofs.Runs.{row-after}
+use Rattle.layout.specs.Layout.{row_bytes, head_of, addresses_of, halves_of}
+use borrow.Author.Rules.{rules}
+use Rattle.coding.proofs.put_scalars.Goals as goal
+
+pub returns : goal.returns
+unfolding head_of addresses_of halves_of
+returns c =
+                            let x = c.args in
+    let r = x.registers in
+    let m = c.put_bytes.new.0 in
+    let n = c.put_words.new.0 in
+    let e = row-after 1 0 10 10 x.«record».now m _ (head_of r) [] c.head_of-head.ensures refl refl c.put_bytes.ensures refl in
+    let f = row-after 2 10 2 14 m n _ (addresses_of r) (row_bytes 1 (head_of r)) c.addresses_of-addresses.ensures refl refl c.put_words.ensures e in
+    row-after 8 14 16 142 n _ _ (halves_of r x.since) (row_bytes 1 (head_of r) ++ row_bytes 2 (addresses_of r)) c.halves_of-halves.ensures refl refl c.put_halves.ensures f

@@ -1,0 +1,7 @@
+-- `coding::state::pending_instant` meets its contract, by the arms of its match.
+-- Assumes nothing.
+use borrow.Author.Rules.{rules}
+use Rattle.coding.proofs.state.pending_instant.Goals as goal
+
+pub returns-in-Nothing : goal.returns-in-Nothing
+returns-in-Nothing c = rw c.in-Nothing.is

@@ -1,0 +1,15 @@
+-- `lent::making::copy` meets its contract. The loop's invariant: the bytes passed are copied, and the others are as they were.
+-- Assumes nothing.
+use Rattle.lent.proofs.Copied.{copied, copied_all}
+use Rattle.cell.proofs.Partly.{partly-turn}
+use lib.ListN.{length, length-set}
+use Prim.Native.Nat.{◌≤◌, ◌-◌}
+use mathlib.Core.Path.{◌≡◌, refl, ◌∙◌}
+use native.Mathlib.Omega.{arith}
+use Rattle.lent.proofs.making.copy.Given as goal
+
+abbrev pub invariant-loop-i : goal.invariant-loop-i
+invariant-loop-i l = (l.i ≤ length l.from) × (length l.to ≡ length l.initial.to) × (l.to ≡ copied l.from l.i l.initial.to)
+
+abbrev pub decreases-loop-i : goal.decreases-loop-i
+decreases-loop-i l = length l.from - l.i

@@ -1,0 +1,6 @@
+-- `light::lit` meets its contract: by what its calls ensure. Assumes nothing.
+use borrow.Author.Rules.{rules}
+use Rattle.light.proofs.lit.Goals as goal
+
+pub returns : goal.returns
+returns c = rw c.with_settings-registers.ensures

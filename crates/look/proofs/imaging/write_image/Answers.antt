@@ -1,0 +1,60 @@
+-- `look::imaging::write_image` meets its contract. The loop's invariant: the image's first pages are stored, as many as were passed. A page
+-- that the exposure does not reach is the stored one. Assumes nothing.
+use mathlib.Core.Path.{◌≡◌, refl, ap, sym, ◌∙◌}
+use mathlib.Core.Logic.{⊎_elim}
+use Prim.Native.Nat.{◌+◌, ◌-◌, ◌*◌, ◌≤◌}
+use native.Mathlib.Omega.{arith}
+use borrow.Author.Rules.{rules}
+use lib.ListN.{length, take, drop}
+use lib.Seq.{sets, length-sets}
+use Rattle.time.specs.Raw.{span}
+use Rattle.settle.specs.Pages.{Cells}
+use Rattle.settle.specs.Settling.{expose}
+use Rattle.settle.proofs.Expose.{expose-array-length}
+use Rattle.flash.proofs.Look.{seen, look-kept-page, sets_more, sets-all}
+use Rattle.look.proofs.imaging.write_image.Goals as goal
+
+pub loop-page-init : goal.loop-page-init
+loop-page-init c = (omega arith, refl)
+
+pub overflow_mul-start : goal.overflow_mul-start
+overflow_mul-start c = omega arith
+
+pub write_exposed-requires : goal.write_exposed-requires
+write_exposed-requires c =
+            let p = c.requires in
+    (p.0, p.1, p.2, p.3, c.ceilings-limits.ensures, omega arith, rw (c.loop-page.invariant.1, length-sets) p.4)
+
+pub write_stored-requires : goal.write_stored-requires
+write_stored-requires c =
+        (omega arith, rw (c.loop-page.invariant.1, length-sets) (omega arith))
+
+pub overflow_add-page : goal.overflow_add-page
+overflow_add-page c = omega arith
+
+pub loop-page-smaller : goal.loop-page-smaller
+loop-page-smaller c = omega arith
+
+pub loop-page-preserved : goal.loop-page-preserved
+loop-page-preserved c =
+    let l = c.loop-page in
+    let x = c.args in
+    let cells : Cells = record { index = x.indices.now; array = x.array.now; charges = x.charges.now } in
+    let image = (expose x.pulse x.latch.now (span x.exposure) cells).array in
+    let n = l.page * 128 in
+    let next : (l.page + 1) * 128 ≡ n + 128 = omega arith in
+    let kept = look-kept-page x.pulse x.latch.now (span x.exposure) cells l.page in
+    let written : c.if-reaches.out ≡ sets l.out n (take 128 (drop n image)) =
+    ⊎_elim
+    (λ w. w.6 ∙ w.3.ensures)
+    (λ w. w.5 ∙ w.2.ensures ∙ ap (sets l.out n) (kept (sym c.reaches.ensures ∙ w.0.left)))
+    c.if-reaches.branch in
+    (omega arith, rw next (sets_more _ _ _ _ n 128 l.invariant.1 written (rw expose-array-length (omega arith))))
+
+pub shape_of-out : goal.shape_of-out
+shape_of-out c = ap length c.loop-page.invariant.1 ∙ simp length-sets
+
+pub returns : goal.returns
+returns c =
+    let l = c.loop-page in
+    sets-all _ _ _ (l.page * 128) l.invariant.1 (rw expose-array-length (omega arith))

@@ -1,0 +1,15 @@
+-- `look::imaging::write_stored` meets its contract. The loop's invariant: the page's first bytes are stored, as many as were passed.
+-- Assumes nothing.
+use mathlib.Core.Path.{◌≡◌, refl, ap, ◌∙◌}
+use Prim.Native.Nat.{◌-◌, ◌≤◌}
+use native.Mathlib.Omega.{arith}
+use lib.ListN.{length, take, drop}
+use lib.Seq.{sets, length-sets}
+use Rattle.flash.proofs.Look.{sets-turn}
+use Rattle.look.proofs.imaging.write_stored.Given as goal
+
+abbrev pub invariant-loop-i : goal.invariant-loop-i
+invariant-loop-i l = (l.i ≤ 128) × (l.out ≡ sets l.initial.out l.start (take l.i (drop l.start l.array)))
+
+abbrev pub decreases-loop-i : goal.decreases-loop-i
+decreases-loop-i l = 128 - l.i

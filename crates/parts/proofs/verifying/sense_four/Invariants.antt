@@ -1,0 +1,27 @@
+-- `parts::verifying::sense_four` meets its contract. The loop's invariant: each place passed holds the byte that its cells sense. Assumes
+-- nothing.
+use mathlib.Core.Path.{sym, ◌≡◌, refl, ap, ◌∙◌}
+use lib.ListN.{length, replicate}
+use Prim.Native.Nat.{ℕ, ◌+◌, ◌-◌, ◌*◌, ◌≤◌}
+use mathlib.Core.List.{List}
+use Rattle.cell.specs.declared.Sense.{Sense}
+use Rattle.cell.specs.Cell.{at, tabulate, sensed_byte}
+use Rattle.cell.proofs.Table.{entry}
+use Rattle.cell.proofs.Sensed.{sensed_byte-same}
+use Rattle.cell.proofs.Partly.{partly, partly-turn, partly-all}
+use Rattle.settle.specs.Pages.{Cells, cell_at}
+use Rattle.settle.specs.Settling.{four_sensed}
+use native.Mathlib.Omega.{arith}
+use Rattle.parts.proofs.verifying.sense_four.Given as goal
+
+abbrev pub cells_in : List ℕ → List ℕ → List ℕ → Cells
+cells_in index array charges = record { index = index; array = array; charges = charges }
+
+abbrev pub four-there : Sense → ℕ → List ℕ → List ℕ → List ℕ → ℕ → ℕ → ℕ
+four-there m address index array charges k x = sensed_byte m (address + k) (λ j. cell_at (cells_in index array charges) (8 * (address + k) + j))
+
+abbrev pub invariant-loop-k : goal.invariant-loop-k
+invariant-loop-k l = (l.k ≤ 4) × (l.bytes ≡ partly (four-there l.m l.address l.indices l.array l.charges) l.k l.initial.bytes)
+
+abbrev pub decreases-loop-k : goal.decreases-loop-k
+decreases-loop-k l = 4 - l.k

@@ -1,0 +1,46 @@
+-- `picture::cells::holds_charge` meets its contract. The loop's invariant: the page holds a charge if a cell not yet passed does.
+-- Assumes nothing.
+use mathlib.Core.Path.{◌≡◌, sym, ◌∙◌}
+use Prim.Native.Nat.{◌+◌, ◌-◌, ◌*◌, ◌≤◌}
+use native.Mathlib.Nat.{add-zero}
+use native.Mathlib.Omega.{arith}
+use borrow.Author.Tests.{lt-ltb, le-ltb}
+use Rattle.picture.proofs.Held.{after, holds-turn}
+use Rattle.picture.specs.Marks.{holds_charge}
+use Rattle.settle.specs.Pages.{cell_at}
+use Rattle.picture.proofs.cells.holds_charge.Goals as goal
+
+pub overflow_mul-start : goal.overflow_mul-start
+overflow_mul-start c = omega arith
+
+pub loop-i-init : goal.loop-i-init
+loop-i-init c = (omega arith, rw add-zero)
+
+pub overflow_add-start : goal.overflow_add-start
+overflow_add-start c = omega arith
+
+pub cell_after-q-requires : goal.cell_after-q-requires
+cell_after-q-requires c = let p = c.requires in (p.0, p.1, p.2, p.3, omega arith)
+
+pub returns-then-q-gt0 : goal.returns-then-q-gt0
+returns-then-q-gt0 c =
+    let l = c.loop-i in
+    sym (l.invariant.1 ∙ rw (holds-turn _ _ l.i (omega arith), ← c.cell_after-q.ensures, lt-ltb 0 _ c.if-q-gt0.true))
+
+pub overflow_add-i : goal.overflow_add-i
+overflow_add-i c = omega arith
+
+pub loop-i-smaller : goal.loop-i-smaller
+loop-i-smaller c = omega arith
+
+pub loop-i-preserved : goal.loop-i-preserved
+loop-i-preserved c =
+    let l = c.loop-i in
+    (omega arith, l.invariant.1 ∙ rw (holds-turn _ _ l.i (omega arith), ← c.cell_after-q.ensures, le-ltb 0 _ c.if-q-gt0.false))
+
+pub returns : goal.returns
+unfolding holds_charge
+returns c =
+    let l = c.loop-i in
+    let e : 1024 - l.i ≡ 0 = omega arith in
+    sym (l.invariant.1 ∙ rw e)

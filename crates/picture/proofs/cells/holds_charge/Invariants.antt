@@ -1,0 +1,19 @@
+-- `picture::cells::holds_charge` meets its contract. The loop's invariant: the page holds a charge if a cell not yet passed does.
+-- Assumes nothing.
+use mathlib.Core.Path.{◌≡◌, sym, ◌∙◌}
+use Prim.Native.Nat.{◌+◌, ◌-◌, ◌*◌, ◌≤◌}
+use native.Mathlib.Nat.{add-zero}
+use native.Mathlib.Omega.{arith}
+use borrow.Author.Tests.{lt-ltb, le-ltb}
+use Rattle.picture.proofs.Held.{after, holds-turn}
+use Rattle.picture.specs.Marks.{holds_charge}
+use Rattle.settle.specs.Pages.{cell_at}
+use Rattle.picture.proofs.cells.holds_charge.Given as goal
+
+abbrev pub invariant-loop-i : goal.invariant-loop-i
+invariant-loop-i l =
+    (l.i ≤ 1024)
+    × (holds_charge (cell_at (after l.indices l.array l.charges l.pulse l.latch l.exposure)) 1024 (l.page * 1024) ≡ holds_charge (cell_at (after l.indices l.array l.charges l.pulse l.latch l.exposure)) (1024 - l.i) (l.page * 1024 + l.i))
+
+abbrev pub decreases-loop-i : goal.decreases-loop-i
+decreases-loop-i l = 1024 - l.i

@@ -1,0 +1,16 @@
+-- `picture::marks::write_marks` meets its contract. The loop's invariant: as many marks are written as pages were passed.
+-- Assumes nothing.
+use mathlib.Core.Path.{◌≡◌, ap, ◌∙◌}
+use Prim.Native.Nat.{◌-◌, ◌≤◌}
+use native.Mathlib.Omega.{arith}
+use lib.ListN.{length}
+use Rattle.picture.proofs.Written.{length-written, written_none, written-turn}
+use Rattle.picture.specs.Marks.{mark_at}
+use Rattle.picture.specs.Outputs.{written}
+use Rattle.picture.proofs.marks.write_marks.Given as goal
+
+abbrev pub invariant-loop-page : goal.invariant-loop-page
+invariant-loop-page l = (l.page ≤ 384) × (l.out ≡ written (mark_at l.time (record { l.flash = l.flash; l.array = l.array; l.charges = l.charges })) l.page l.initial.out)
+
+abbrev pub decreases-loop-page : goal.decreases-loop-page
+decreases-loop-page l = 384 - l.page

@@ -1,0 +1,25 @@
+-- `registers::Registers::tripped` meets its contract: the arm of an open pulse raises recovery by its wait, which is below a
+-- second, so the sum fits. Assumes nothing.
+use Prim.Native.Nat.{◌<◌}
+use lib.Dec.{lit<}
+use Rattle.cell.specs.declared.Direction.{Direction}
+use Rattle.cell.specs.declared.Direction.TheVariants.{Program, Erase}
+use Rattle.control.specs.Waits.{trip_wait}
+use borrow.Author.Rules.{rules}
+use Rattle.registers.proofs.Registers.tripped.Goals as goal
+
+-- a pulse's wait is below a second
+wait-short : (d : Direction) → trip_wait d < 1000000
+wait-short Program = lit< tt
+wait-short Erase = lit< tt
+
+pub after-requires : goal.after-requires
+after-requires c =
+            (c.requires, rw c.trip_wait.ensures (wait-short c.in-Open.p.direction))
+
+pub returns-in-Closed : goal.returns-in-Closed
+returns-in-Closed c = rw c.in-Closed.is
+
+pub returns-in-Open : goal.returns-in-Open
+returns-in-Open c =
+            rw (c.in-Open.is, c.max-recovery.ensures, c.after.ensures, c.trip_wait.ensures)

@@ -1,0 +1,19 @@
+-- `restore::loading::load_pages` meets its contract. The loop's invariant: the charges of the pages passed are stored from the first slot on.
+-- Assumes nothing.
+use Prim.Native.Nat.{◌+◌, ◌-◌, ◌*◌, ◌≤◌}
+use mathlib.Core.Path.{◌≡◌, refl, ap, sym, ◌∙◌}
+use lib.ListN.{length}
+use lib.Seq.{sets, length-sets}
+use borrow.Rule.Slice.PartMut.{mid_len}
+use Rattle.cell.specs.Cell.{array_cells}
+use Rattle.snapshot.specs.Places.{pages_place, pages_cells, page_at}
+use Rattle.restore.proofs.Loaded.{load-turn}
+use native.Mathlib.Omega.{arith}
+use Rattle.restore.proofs.loading.load_pages.Given as goal
+
+abbrev pub invariant-loop-slot : goal.invariant-loop-slot
+invariant-loop-slot l =
+    (l.slot ≤ l.count) × (length l.charges ≡ array_cells) × (l.charges ≡ sets l.initial.charges 0 (pages_cells l.slot l.bytes pages_place))
+
+abbrev pub decreases-loop-slot : goal.decreases-loop-slot
+decreases-loop-slot l = l.count - l.slot

@@ -1,0 +1,15 @@
+-- `rows::get_halves` meets its contract. The loop's invariant: the places passed have the row's numbers.
+-- Assumes nothing.
+use lib.ListN.{length, length-set}
+use Prim.Native.Nat.{◌≤◌, ◌-◌}
+use mathlib.Core.Path.{◌≡◌, refl, ◌∙◌}
+use Rattle.cell.proofs.Partly.{partly-turn}
+use Rattle.layout.proofs.Runs.{filled, filled-all}
+use native.Mathlib.Omega.{arith}
+use Rattle.rows.proofs.get_halves.Given as goal
+
+abbrev pub invariant-loop-i : goal.invariant-loop-i
+invariant-loop-i l = (l.i ≤ length l.initial.out) × (length l.out ≡ length l.initial.out) × (l.out ≡ filled 8 l.at l.s l.i l.initial.out)
+
+abbrev pub decreases-loop-i : goal.decreases-loop-i
+decreases-loop-i l = length l.initial.out - l.i

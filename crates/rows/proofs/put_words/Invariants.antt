@@ -1,0 +1,16 @@
+-- `rows::put_words` meets its contract. The loop's invariant: the bytes of the numbers passed stand after what was there.
+-- Assumes nothing.
+use Rattle.layout.specs.Layout.{row_bytes}
+use mathlib.Core.List.{◌++◌}
+use lib.ListN.{length, take}
+use Prim.Native.Nat.{◌+◌, ◌*◌, ◌≤◌, ◌-◌}
+use mathlib.Core.Path.{◌≡◌, refl}
+use Rattle.layout.proofs.Runs.{start, more, finish}
+use native.Mathlib.Omega.{arith}
+use Rattle.rows.proofs.put_words.Given as goal
+
+abbrev pub invariant-loop-i : goal.invariant-loop-i
+invariant-loop-i l = (l.i ≤ length l.v) × (length l.s ≡ length l.initial.s) × (take (l.at + 2 * l.i) l.s ≡ take l.at l.initial.s ++ row_bytes 2 (take l.i l.v))
+
+abbrev pub decreases-loop-i : goal.decreases-loop-i
+decreases-loop-i l = length l.v - l.i

@@ -1,0 +1,36 @@
+-- `save::fill` meets its contract: the array, the count, the charge pages and the state, each written after what stands already.
+-- Assumes nothing.
+use lib.ListN.{length}
+use Prim.Native.Nat.{◌+◌, ◌*◌, ◌≤◌}
+use Rattle.layout.specs.Layout.{option_byte}
+use Rattle.flash.specs.Chip.{Chip}
+use Rattle.save.proofs.Filled.{filled}
+use Rattle.snapshot.specs.Places.{page_at}
+use Rattle.settle.proofs.Slots.{opened-le}
+use native.Mathlib.Omega.{arith}
+use borrow.Author.Rules.{rules}
+use Rattle.save.proofs.fill.Goals as goal
+
+pub overflow_cast-count : goal.overflow_cast-count
+overflow_cast-count c = omega (arith, opened-le c.args.flash.indices)
+
+pub put_pages-requires : goal.put_pages-requires
+unfolding page_at
+put_pages-requires c = let p = c.requires in (p.2, p.3, p.4, p.1, omega arith)
+
+pub page_at-requires : goal.page_at-requires
+page_at-requires c = omega (arith, opened-le c.args.flash.indices)
+
+pub put_state-requires : goal.put_state-requires
+unfolding page_at
+put_state-requires c = omega arith
+
+pub returns : goal.returns
+unfolding page_at
+returns c =                         let x = c.args in
+    let k : Chip = record { flash = x.flash; array = x.array.now; charges = x.charges.now } in
+    let p = c.page_at.result in
+    let m = p + 256 + 18 * option_byte x.flash.registers.verify_pending in
+    let l = c.put_state.new.0 in
+    let whole : length l ≤ m = omega (arith, same_length c, c.requires.5, c.page_at.ensures) in
+    filled k (0 + 1 * length x.array.now) 49152 x.count (page_at x.count) p m x.out.now c.put_bytes.new.0 c.put32.new.0 c.put_pages.new.0 l c.put_bytes.ensures (omega arith) c.put32.ensures c.requires.4 c.put_pages.ensures c.page_at.ensures c.put_state.ensures whole

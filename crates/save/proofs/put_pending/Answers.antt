@@ -1,0 +1,47 @@
+-- `save::put_pending` meets its contract: an option byte, and with a sense its address and the halves of its instant after it.
+-- That the instant's fraction has 64 bits is what the type of the argument says.
+-- Assumes nothing.
+use mathlib.Core.Path.{◌∙◌}
+use mathlib.Core.List.{[], ◌∷◌, append_assoc}
+use Prim.Native.Nat.{◌+◌}
+use lib.ListN.{set, length-set}
+use Rattle.layout.specs.Layout.{bytes, row_bytes}
+use Rattle.layout.proofs.Runs.{put_one}
+use Rattle.save.proofs.Runs.{after, nothing-row, sense-row}
+use native.Mathlib.Omega.{arith}
+use borrow.Author.Rules.{rules}
+use Rattle.save.proofs.put_pending.Goals as goal
+
+pub put16-requires : goal.put16-requires
+put16-requires c =
+        let h = rw c.in-Sense.is at c.requires in
+    simp length-set (omega arith)
+
+pub put_halves-requires : goal.put_halves-requires
+put_halves-requires c =
+            let h = rw c.in-Sense.is at c.requires in
+    omega (arith, length-set c.args.out.now c.args.at 1)
+
+pub returns-in-Nothing : goal.returns-in-Nothing
+returns-in-Nothing c =
+    let x = c.args in
+    rw (c.in-Nothing.is, nothing-row) (omega arith, put_one x.out.now x.at 0 (omega arith) (omega arith))
+
+pub shape_of-out-in-Sense : goal.shape_of-out-in-Sense
+shape_of-out-in-Sense c =
+    let x = c.args in
+    omega (arith, length-set x.out.now x.at 1)
+
+pub returns-in-Sense : goal.returns-in-Sense
+returns-in-Sense c =
+                let x = c.args in
+    let k = x.at in
+    let s = x.out.now in
+    let v = c.sense-1.given.0 in
+    let t = v.1.0 in
+    let m = c.put16.new.0 in
+    let n = c.put_halves.new.0 in
+    let p = put_one s k 1 (omega arith) (omega arith) in
+    let q = after (k + 1) (k + 1 + 2) (k + 3) (set s k 1) m _ (bytes 2 v.0) c.put16.ensures p (omega arith) in
+    let r = after (k + 3) (k + 3 + 16) (k + 19) m n _ (row_bytes 8 (t.1 ∷ t.0 ∷ [])) c.put_halves.ensures q (omega arith) in
+    rw (c.in-Sense.is, sense-row v.0 t (omega (arith, c.in-Sense.known_told-1-own.given))) (omega arith, r ∙ simp append_assoc)

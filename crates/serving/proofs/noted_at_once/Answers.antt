@@ -1,0 +1,11 @@
+-- `serving::noted_at_once` meets its contract: the last call is noted at the course after those that passed. Assumes nothing.
+use borrow.Author.Rules.{rules}
+use Rattle.serving.proofs.noted_at_once.Goals as goal
+
+pub returns : goal.returns
+returns c =
+        let noted = c.noted.ensures in
+    record {
+      next_is = noted.next_is;
+      leaves = λ m. rw (← c.passed-before.ensures, ← c.request_at-request.ensures, ← c.time_at-time.ensures) (noted.leaves m);
+    }

@@ -1,0 +1,19 @@
+-- `settle::pages::byte_cells` meets its contract. The loop's invariant: each place passed holds the charge of its cell.
+-- Assumes nothing.
+use Prim.Native.Nat.{ℕ, ◌+◌, ◌-◌, ◌*◌, ◌≤◌}
+use mathlib.Core.Path.{◌≡◌, refl, ◌∙◌}
+use mathlib.Core.List.{List}
+use native.Mathlib.Omega.{arith}
+use lib.ListN.{replicate}
+use Rattle.cell.proofs.Partly.{partly, partly-turn, partly-all}
+use Rattle.settle.specs.Pages.{cell_at}
+use Rattle.settle.proofs.pages.byte_cells.Given as goal
+
+abbrev pub cell-there : List ℕ → List ℕ → List ℕ → ℕ → ℕ → ℕ → ℕ
+cell-there index array charges address k x = cell_at (record { index = index; array = array; charges = charges }) (8 * address + k)
+
+abbrev pub invariant-loop-k : goal.invariant-loop-k
+invariant-loop-k l = (l.k ≤ 8) × (l.cells ≡ partly (cell-there l.indices l.array l.charges l.address) l.k l.initial.cells)
+
+abbrev pub decreases-loop-k : goal.decreases-loop-k
+decreases-loop-k l = 8 - l.k

@@ -1,0 +1,70 @@
+-- `settle::pages::opened` meets its contract. The loop's invariant: the count, and the opened pages of the entries that are left, are together
+-- those of the index.
+-- Assumes nothing.
+use mathlib.Core.Path.{◌≡◌, refl, ap}
+use mathlib.Core.Logic.{◌≢◌}
+use mathlib.Core.List.{List, ◌∷◌}
+use Prim.Native.Nat.{ℕ, zero, suc, ◌+◌, ◌-◌, ◌≤◌, ◌<◌}
+use native.Mathlib.Numerals.{add-one}
+use native.Mathlib.Omega.{arith}
+use lib.ListN.{length, drop}
+use lib.Seq.{drop-cons, drop-length}
+use Rattle.cell.specs.Cell.{at}
+use Rattle.settle.specs.Pages.{opened}
+use Rattle.settle.proofs.pages.opened.Goals as goal
+
+opened-zero : (x : ℕ) (xs : List ℕ) → x ≡ 0 → opened (x ∷ xs) ≡ opened xs
+unfolding opened
+opened-zero x xs e = rw e
+
+opened-suc : (x : ℕ) (xs : List ℕ) → x ≢ 0 → opened (x ∷ xs) ≡ opened xs + 1
+unfolding opened
+opened-suc zero xs n = absurd (n refl)
+opened-suc (suc x) xs n = omega arith
+
+-- the entries from i on begin with the entry i
+from : (l : List ℕ) (i : ℕ) → i < length l → drop i l ≡ at l i ∷ drop (i + 1) l
+from l i h = rw (add-one, drop-cons l i 0)
+
+none_left : (l : List ℕ) (i : ℕ) → i ≡ length l → opened (drop i l) ≡ 0
+unfolding opened
+none_left l i e = rw (e, drop-length)
+
+pub loop-i-init : goal.loop-i-init
+loop-i-init c = (omega arith, omega arith, omega arith)
+
+pub offset_bounds-indices-i : goal.offset_bounds-indices-i
+offset_bounds-indices-i c = omega arith
+
+pub bounds-indices-i : goal.bounds-indices-i
+bounds-indices-i c = omega arith
+
+pub overflow_add-i : goal.overflow_add-i
+overflow_add-i c = omega arith
+
+pub overflow_add-n : goal.overflow_add-n
+overflow_add-n c = omega arith
+
+pub loop-i-smaller-then-entry-ne0 : goal.loop-i-smaller-then-entry-ne0
+loop-i-smaller-then-entry-ne0 c = omega arith
+
+pub loop-i-preserved-then-entry-ne0 : goal.loop-i-preserved-then-entry-ne0
+loop-i-preserved-then-entry-ne0 c =
+        let l = c.args.indices.now in
+    let i = c.loop-i.i in
+    (omega arith, omega arith, omega (arith, ap opened (from l i (omega arith)), opened-suc (at l i) (drop (i + 1) l) (omega arith)))
+
+pub loop-i-smaller : goal.loop-i-smaller
+loop-i-smaller c = omega arith
+
+pub loop-i-preserved : goal.loop-i-preserved
+loop-i-preserved c =
+        let l = c.args.indices.now in
+    let i = c.loop-i.i in
+    (omega arith, omega arith, omega (arith, ap opened (from l i (omega arith)), opened-zero (at l i) (drop (i + 1) l) (omega arith)))
+
+pub returns : goal.returns
+returns c =
+    let l = c.args.indices.now in
+    let e = none_left l c.loop-i.i (omega arith) in
+    (omega arith, omega arith)

@@ -1,0 +1,6 @@
+-- `time::Duration::is_zero` meets its contract: a length is 0 where both its halves are. Assumes nothing.
+use Rattle.time.proofs.Laws.{zero-eqb}
+use Rattle.time.proofs.Duration.is_zero.Goals as goal
+
+pub returns : goal.returns
+returns c = zero-eqb c.args.self
