@@ -1,0 +1,15 @@
+-- `grammar::lines::value_line` meets its contract, by the word that it finds and what that means. Assumes nothing.
+use mathlib.Core.Path.{sym, ◌∙◌}
+use Rattle.grammar.specs.Grammar.{value_line}
+use borrow.Author.Rules.{rules}
+use Rattle.grammar.proofs.lines.value_line.Goals as goal
+
+pub returns-in-Wrong : goal.returns-in-Wrong
+unfolding value_line
+returns-in-Wrong c =
+            rw (← c.word_at-word.ensures.is, sym c.value_in.ensures ∙ c.in-Wrong.is)
+
+pub returns-in-Is : goal.returns-in-Is
+unfolding value_line
+returns-in-Is c =
+            rw (← c.word_at-word.ensures.is, sym c.value_in.ensures ∙ c.in-Is.is) c.ended.ensures

@@ -1,0 +1,15 @@
+-- `grammar::lines::write_line` meets its contract, by the word that it finds and what that means. Assumes nothing.
+use mathlib.Core.Path.{sym, ◌∙◌}
+use Rattle.grammar.specs.Grammar.{write_line}
+use borrow.Author.Rules.{rules}
+use Rattle.grammar.proofs.lines.write_line.Goals as goal
+
+pub returns-in-Wrong : goal.returns-in-Wrong
+unfolding write_line
+returns-in-Wrong c =
+            rw (← c.word_at-word.ensures.is, sym c.register_in.ensures ∙ c.in-Wrong.is)
+
+pub returns-in-Is : goal.returns-in-Is
+unfolding write_line
+returns-in-Is c =
+            rw (← c.word_at-word.ensures.is, sym c.register_in.ensures ∙ c.in-Is.is) c.value_line.ensures

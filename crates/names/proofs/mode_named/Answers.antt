@@ -1,0 +1,8 @@
+-- `names::mode_named` meets its contract: the names in one text are those of the list. Assumes nothing.
+use Rattle.words.specs.Text.{split, split_before}
+use borrow.Author.Rules.{rules}
+use Rattle.names.proofs.mode_named.Goals as goal
+
+pub returns : goal.returns
+unfolding split split_before
+returns c = c.place.ensures

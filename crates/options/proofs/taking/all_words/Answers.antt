@@ -1,0 +1,41 @@
+-- `options::taking::all_words` meets its contract. The loop's invariant: what the words up to the place give, with those that follow, is
+-- what all words give. Assumes nothing.
+use Prim.Native.Nat.{◌-◌}
+use mathlib.Core.Logic.{⊎_elim}
+use mathlib.Core.Path.{◌∙◌}
+use native.Mathlib.Omega.{arith}
+use lib.ListN.{length}
+use Rattle.options.proofs.Reading.{Reading, read_none, read_word, read-on, read_all}
+use Rattle.options.proofs.taking.all_words.Goals as goal
+
+pub loop-at-init : goal.loop-at-init
+loop-at-init c = read_none c.args.args.now
+
+pub bounds-args-at : goal.bounds-args-at
+bounds-args-at c = omega arith
+
+pub step_at-given-requires : goal.step_at-given-requires
+step_at-given-requires c =
+    let l = c.loop-at in
+    (record { ordered = l.invariant.order; inside = l.invariant.inside }, l.invariant.lies.stage)
+
+pub overflow_add-from : goal.overflow_add-from
+overflow_add-from c = omega arith
+
+pub overflow_add-at : goal.overflow_add-at
+overflow_add-at c = omega arith
+
+pub loop-at-smaller : goal.loop-at-smaller
+loop-at-smaller c = omega arith
+
+pub loop-at-preserved : goal.loop-at-preserved
+loop-at-preserved c =
+    let l = c.loop-at in
+    let x = c.args in
+    ⊎_elim
+    (λ w. read_word x.args.now l.given l.from l.at l.invariant (omega arith) w.0.taken _ _ (w.3 ∙ w.2.ensures) w.4)
+    (λ w. read-on x.args.now l.given l.from l.at l.invariant (omega arith) w.0.left _ _ w.1 w.2)
+    c.if-args-at-eq0.branch
+
+pub returns : goal.returns
+returns c = read_all _ c.loop-at.invariant (omega arith)

@@ -1,0 +1,12 @@
+-- `options::taking::valued` meets its contract: each branch is one test of the definition. Assumes nothing.
+use Rattle.options.specs.Arguments.{valued}
+use borrow.Author.Rules.{rules}
+use Rattle.options.proofs.taking.valued.Goals as goal
+
+pub returns-then-fits : goal.returns-then-fits
+unfolding valued
+returns-then-fits c = rw (c.taken.ensures, ← c.fits2.ensures, c.if-fits.true)
+
+pub returns : goal.returns
+unfolding valued
+returns c = rw (c.complaint.ensures, ← c.fits2.ensures, c.if-fits.false)

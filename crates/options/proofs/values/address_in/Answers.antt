@@ -1,0 +1,6 @@
+-- `options::values::address_in` meets its contract, by what it calls. Assumes nothing.
+use borrow.Author.Rules.{rules}
+use Rattle.options.proofs.values.address_in.Goals as goal
+
+pub returns : goal.returns
+returns c = rw (c.value_below.ensures, c.hexadecimal.ensures)

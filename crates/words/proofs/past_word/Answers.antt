@@ -1,0 +1,40 @@
+-- `words::past_word` meets its contract. The loop's invariant: from where it stands the word ends where it does from its
+-- start. Assumes nothing.
+use Prim.Native.Nat.{◌≤◌, ◌-◌}
+use mathlib.Core.Path.{◌≡◌, refl, sym, ◌∙◌}
+use native.Mathlib.Omega.{arith}
+use borrow.Author.Rules.{rules}
+use borrow.Author.Tests.{not-true, not-false}
+use lib.ListN.{length}
+use Rattle.words.specs.Words.{in_word, past}
+use Rattle.words.proofs.Runs.{past_more, past-here, past_end}
+use Rattle.words.proofs.past_word.Goals as goal
+
+pub loop-i-init : goal.loop-i-init
+loop-i-init c = (refl, omega arith, omega arith)
+
+pub bounds-line-i : goal.bounds-line-i
+bounds-line-i c = omega arith
+
+pub returns-then-not-in_word : goal.returns-then-not-in_word
+returns-then-not-in_word c =
+    let l = c.loop-i in
+    let t = sym c.in_word.ensures ∙ not-true _ c.if-not-in_word.true in
+    record { is = sym (past-here in_word _ l.i (omega arith) t) ∙ l.invariant.0; after = omega arith; inside = omega arith }
+
+pub overflow_add-i : goal.overflow_add-i
+overflow_add-i c = omega arith
+
+pub loop-i-smaller : goal.loop-i-smaller
+loop-i-smaller c = omega arith
+
+pub loop-i-preserved : goal.loop-i-preserved
+loop-i-preserved c =
+    let l = c.loop-i in
+    let t = sym c.in_word.ensures ∙ not-false _ c.if-not-in_word.false in
+    (past_more in_word _ l.i (omega arith) t ∙ l.invariant.0, omega arith, omega arith)
+
+pub returns : goal.returns
+returns c =
+    let l = c.loop-i in
+    record { is = sym (past_end in_word _ l.i (omega arith)) ∙ l.invariant.0; after = omega arith; inside = omega arith }

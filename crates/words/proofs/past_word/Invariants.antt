@@ -1,0 +1,17 @@
+-- `words::past_word` meets its contract. The loop's invariant: from where it stands the word ends where it does from its
+-- start. Assumes nothing.
+use Prim.Native.Nat.{◌≤◌, ◌-◌}
+use mathlib.Core.Path.{◌≡◌, refl, sym, ◌∙◌}
+use native.Mathlib.Omega.{arith}
+use borrow.Author.Rules.{rules}
+use borrow.Author.Tests.{not-true, not-false}
+use lib.ListN.{length}
+use Rattle.words.specs.Words.{in_word, past}
+use Rattle.words.proofs.Runs.{past_more, past-here, past_end}
+use Rattle.words.proofs.past_word.Given as goal
+
+abbrev pub invariant-loop-i : goal.invariant-loop-i
+invariant-loop-i l = (past in_word l.line l.i ≡ past in_word l.line l.at) × (l.at ≤ l.i) × (l.i ≤ length l.line)
+
+abbrev pub decreases-loop-i : goal.decreases-loop-i
+decreases-loop-i l = length l.line - l.i
