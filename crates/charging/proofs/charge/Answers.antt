@@ -60,7 +60,7 @@ loop-k-smaller c = omega arith
 
 pub loop-k-preserved : goal.loop-k-preserved
 loop-k-preserved c =
-        let l = c.loop-k in
+    let l = c.loop-k in
     let i = c.loop-i.i in
     let n : 8 * i + (l.k + 1) ≡ 8 * i + l.k + 1 = omega arith in (
       omega arith,

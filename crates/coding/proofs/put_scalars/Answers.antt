@@ -10,7 +10,7 @@ use Rattle.coding.proofs.put_scalars.Goals as goal
 pub returns : goal.returns
 unfolding head_of addresses_of halves_of
 returns c =
-                            let x = c.args in
+    let x = c.args in
     let r = x.registers in
     let m = c.put_bytes.new.0 in
     let n = c.put_words.new.0 in

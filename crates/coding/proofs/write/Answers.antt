@@ -13,15 +13,15 @@ use Rattle.coding.proofs.write.Goals as goal
 
 pub put_bytes-requires : goal.put_bytes-requires
 put_bytes-requires c =
-        let h : length c.args.flash.registers.latch ≡ 128 = search rules in omega arith
+    let h : length c.args.flash.registers.latch ≡ 128 = search rules in omega arith
 
 pub put_bytes-requires-2 : goal.put_bytes-requires-2
 put_bytes-requires-2 c =
-        let h : length c.args.flash.sensed ≡ 4 = search rules in omega arith
+    let h : length c.args.flash.sensed ≡ 4 = search rules in omega arith
 
 pub put_words-requires : goal.put_words-requires
 put_words-requires c =
-        let h : length c.args.flash.indices ≡ 384 = search rules in omega arith
+    let h : length c.args.flash.indices ≡ 384 = search rules in omega arith
 
 pub returns : goal.returns
 unfolding encoded rows_of
@@ -33,7 +33,7 @@ returns c =
     let latch : length s.registers.latch ≡ 128 = search rules in
     let sensed : length s.sensed ≡ 4 = search rules in
     let indices : length s.indices ≡ 384 = search rules in
-                let m = c.put_bytes.new.0 in
+    let m = c.put_bytes.new.0 in
     let n = c.put_bytes-2.new.0 in
     let e =
     row-after 1 142 128 270 c.put_scalars.new.0 m s.registers.latch _ _ refl latch refl c.put_bytes.ensures c.put_scalars.ensures in

@@ -7,4 +7,4 @@ use Rattle.environment.proofs.environment_set.Goals as goal
 pub returns : goal.returns
 unfolding environment_set
 returns c =
-                            rw (c.renewed-erase_ready.ensures, c.renewed-program_ready.ensures, c.renewed-swe_ready.ensures, c.renewed-ready.ensures, c.supply_number-new.ensures, c.supply_number-old.ensures)
+    rw (c.renewed-erase_ready.ensures, c.renewed-program_ready.ensures, c.renewed-swe_ready.ensures, c.renewed-ready.ensures, c.supply_number-new.ensures, c.supply_number-old.ensures)

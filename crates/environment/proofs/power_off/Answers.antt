@@ -7,4 +7,4 @@ use Rattle.environment.proofs.power_off.Goals as goal
 pub returns : goal.returns
 unfolding power_off
 returns c =
-        rw c.reset-r.ensures
+    rw c.reset-r.ensures

@@ -7,4 +7,4 @@ use Rattle.environment.proofs.unchanged.Goals as goal
 pub returns : goal.returns
 unfolding unchanged
 returns c =
-                    rw (c.mode_number-2.ensures, c.mode_number.ensures, c.supply_number-2.ensures, c.supply_number.ensures, c.supply_in-new.ensures)
+    rw (c.mode_number-2.ensures, c.mode_number.ensures, c.supply_number-2.ensures, c.supply_number.ensures, c.supply_in-new.ensures)

@@ -5,10 +5,10 @@ use Rattle.feeding.proofs.feed.Goals as goal
 
 pub returns-then-end-have : goal.returns-then-end-have
 returns-then-end-have c =
-        let found = c.find-end.ensures in
+    let found = c.find-end.ensures in
     feeds-ended _ _ _ _ _ _ found.0 found.1 (search rules) (search rules) (search rules) c.put_text-after.ensures (search rules)
 
 pub returns : goal.returns
 returns c =
-        let found = c.find-end.ensures in
+    let found = c.find-end.ensures in
     feeds-more _ _ _ _ _ _ found.0 found.1 (search rules) (search rules) (search rules) c.put_text-after.ensures (search rules)

@@ -8,19 +8,19 @@ use Rattle.fields.proofs.bit_in.Goals as goal
 pub returns-then-n-lt8 : goal.returns-then-n-lt8
 unfolding bit_in
 returns-then-n-lt8 c =
-        rw (sym c.hexadecimal.ensures ∙ c.in-Is.is, lt-ltb _ _ c.if-n-lt8.true)
+    rw (sym c.hexadecimal.ensures ∙ c.in-Is.is, lt-ltb _ _ c.if-n-lt8.true)
 
 pub returns-else-n-lt8 : goal.returns-else-n-lt8
 unfolding bit_in
 returns-else-n-lt8 c =
-            rw (c.narrow_wrong.ensures, sym c.hexadecimal.ensures ∙ c.in-Is.is, le-ltb _ _ c.if-n-lt8.false)
+    rw (c.narrow_wrong.ensures, sym c.hexadecimal.ensures ∙ c.in-Is.is, le-ltb _ _ c.if-n-lt8.false)
 
 pub returns-in-TooLarge : goal.returns-in-TooLarge
 unfolding bit_in
 returns-in-TooLarge c =
-        rw (c.narrow_wrong-in-TooLarge.ensures, sym c.hexadecimal.ensures ∙ c.in-TooLarge.is)
+    rw (c.narrow_wrong-in-TooLarge.ensures, sym c.hexadecimal.ensures ∙ c.in-TooLarge.is)
 
 pub returns-in-Not : goal.returns-in-Not
 unfolding bit_in
 returns-in-Not c =
-        rw (c.narrow_wrong-in-Not.ensures, sym c.hexadecimal.ensures ∙ c.in-Not.is)
+    rw (c.narrow_wrong-in-Not.ensures, sym c.hexadecimal.ensures ∙ c.in-Not.is)

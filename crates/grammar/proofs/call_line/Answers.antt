@@ -11,4 +11,4 @@ returns-then-from-to c = rw (← c.word_at-called.ensures.is, eq-eqb _ _ c.if-fr
 pub returns : goal.returns
 unfolding call_line
 returns c =
-        rw (← c.word_at-called.ensures.is, ne_eqb _ _ c.if-from-to.false, ← c.call_named.ensures) c.line_for.ensures
+    rw (← c.word_at-called.ensures.is, ne_eqb _ _ c.if-from-to.false, ← c.call_named.ensures) c.line_for.ensures

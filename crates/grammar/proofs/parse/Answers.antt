@@ -12,9 +12,9 @@ returns-then-from-to c = rw (← c.word_at-w.ensures.is, eq-eqb _ _ c.if-from-to
 pub returns-in-At : goal.returns-in-At
 unfolding line_of
 returns-in-At c =
-                rw (← c.word_at-w.ensures.is, ne_eqb _ _ c.if-from-to.false, sym c.moment_in.ensures ∙ c.in-At.is) c.call_line.ensures
+    rw (← c.word_at-w.ensures.is, ne_eqb _ _ c.if-from-to.false, sym c.moment_in.ensures ∙ c.in-At.is) c.call_line.ensures
 
 pub returns-in-Wrong : goal.returns-in-Wrong
 unfolding line_of
 returns-in-Wrong c =
-                rw (← c.word_at-w.ensures.is, ne_eqb _ _ c.if-from-to.false, sym c.moment_in.ensures ∙ c.in-Wrong.is)
+    rw (← c.word_at-w.ensures.is, ne_eqb _ _ c.if-from-to.false, sym c.moment_in.ensures ∙ c.in-Wrong.is)

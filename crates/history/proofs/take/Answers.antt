@@ -17,17 +17,17 @@ no_call is after none = record { line_is = is; left_is = rw (← is, none, after
 
 pub returns-in-Nothing : goal.returns-in-Nothing
 returns-in-Nothing c =
-        no_call c.parse-parsed.ensures c.time_after-before.ensures (rw c.in-Nothing.is)
+    no_call c.parse-parsed.ensures c.time_after-before.ensures (rw c.in-Nothing.is)
 
 pub returns-in-Call : goal.returns-in-Call
 returns-in-Call c =
-                let is = sym c.parse-parsed.ensures ∙ c.in-Call.is in
+    let is = sym c.parse-parsed.ensures ∙ c.in-Call.is in
     record { line_is = sym is; left_is = rw (is, c.time_after-before.ensures, c.put_call.ensures, c.word_of.ensures) }
 
 pub returns-in-Look : goal.returns-in-Look
 returns-in-Look c =
-        no_call c.parse-parsed.ensures c.time_after-before.ensures (rw c.in-Look.is)
+    no_call c.parse-parsed.ensures c.time_after-before.ensures (rw c.in-Look.is)
 
 pub returns-in-Wrong : goal.returns-in-Wrong
 returns-in-Wrong c =
-        no_call c.parse-parsed.ensures c.time_after-before.ensures (rw c.in-Wrong.is)
+    no_call c.parse-parsed.ensures c.time_after-before.ensures (rw c.in-Wrong.is)

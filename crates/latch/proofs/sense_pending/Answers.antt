@@ -5,4 +5,4 @@ use Rattle.latch.proofs.sense_pending.Goals as goal
 
 pub returns : goal.returns
 returns c =
-                    rw (c.max-at.ensures, c.max-2.ensures, c.max.ensures, c.after.ensures)
+    rw (c.max-at.ensures, c.max-2.ensures, c.max.ensures, c.after.ensures)

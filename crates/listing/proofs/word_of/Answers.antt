@@ -16,4 +16,4 @@ returns-in-Read16 c = rw c.in-Read16.is c.packed-in-Read16.ensures
 
 pub returns-in-Environment : goal.returns-in-Environment
 returns-in-Environment c =
-        rw (c.in-Environment.is, ← c.flags.ensures) c.packed-in-Environment.ensures
+    rw (c.in-Environment.is, ← c.flags.ensures) c.packed-in-Environment.ensures

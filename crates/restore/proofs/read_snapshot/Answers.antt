@@ -24,13 +24,13 @@ scan-number-requires c = refl
 -- src/reading.rt:70:9
 pub returns-then-number-ne0 : goal.returns-then-number-ne0
 returns-then-number-ne0 c =
-                scan-refused _ _ _ (λ j. (c.shared_slice_known-1.given j).fits) (sym c.sizes_misfit.ensures ∙ c.if-sizes_misfit.false)
+    scan-refused _ _ _ (λ j. (c.shared_slice_known-1.given j).fits) (sym c.sizes_misfit.ensures ∙ c.if-sizes_misfit.false)
     (sym c.last_second.ensures ∙ c.if-last_second.false) _ c.scan-number.ensures.0 c.if-number-ne0.true
 
 -- src/reading.rt:72:5
 pub take-requires : goal.take-requires
 take-requires c =
-        let n = c.scan-number.ensures in
+    let n = c.scan-number.ensures in
     let z = c.if-number-ne0.false in
     let f = sizes-fit _ _ _ (sym c.sizes_misfit.ensures ∙ c.if-sizes_misfit.false) in
     (sym n.0 ∙ z, n.1 z, f.record_long, f.array_long, f.charges_long)
@@ -38,7 +38,7 @@ take-requires c =
 -- src/reading.rt:52:1
 pub returns : goal.returns
 returns c =
-        let n = c.scan-number.ensures in
+    let n = c.scan-number.ensures in
     let z = c.if-number-ne0.false in
-            read-by-place _ _ _ (λ j. (c.shared_slice_known-1.given j).fits) (sym c.sizes_misfit.ensures ∙ c.if-sizes_misfit.false)
+    read-by-place _ _ _ (λ j. (c.shared_slice_known-1.given j).fits) (sym c.sizes_misfit.ensures ∙ c.if-sizes_misfit.false)
     (sym c.last_second.ensures ∙ c.if-last_second.false) _ _ _ _ (sym n.0 ∙ z) c.take.ensures.0 c.take.ensures.1

@@ -26,21 +26,21 @@ overflow_add-at c = omega (arith, c.state_length.ensures, (room _ _ _ c.requires
 -- src/reading.rt:39:9
 pub returns-then-at-state_length : goal.returns-then-at-state_length
 returns-then-at-state_length c =
-            let count = c.count_in-count.ensures in
+    let count = c.count_in-count.ensures in
     let place = c.page_at-at.ensures in
     (left_over _ _ _ _ _ _ count place c.state_length.ensures c.requires.1 c.if-at-state_length.true, record { record_is = refl; array_is = refl; charges_are = refl })
 
 -- src/reading.rt:41:9
 pub flash_at-flash-requires : goal.flash_at-flash-requires
 flash_at-flash-requires c =
-            let count = c.count_in-count.ensures in
+    let count = c.count_in-count.ensures in
     let place = c.page_at-at.ensures in
     (room _ _ _ c.requires.0 count place).0
 
 -- src/reading.rt:43:9
 pub returns-then-not-valid : goal.returns-then-not-valid
 returns-then-not-valid c =
-            let count = c.count_in-count.ensures in
+    let count = c.count_in-count.ensures in
     let place = c.page_at-at.ensures in (
       not_valid _ _ _ _ _ _ count place c.state_length.ensures c.requires.1 c.if-at-state_length.false _
           c.flash_at-flash.ensures _ c.valid.ensures (not-true _ c.if-not-valid.true),
@@ -52,13 +52,13 @@ returns-then-not-valid c =
 -- src/reading.rt:45:5
 pub copy-requires : goal.copy-requires
 copy-requires c =
-        let r = (scan-room _ c.requires.0).0 in
+    let r = (scan-room _ c.requires.0).0 in
     length-take-le 49152 c.args.bytes.now (omega (arith, r)) ∙ sym c.requires.3
 
 -- src/reading.rt:46:5
 pub load_pages-requires : goal.load_pages-requires
 load_pages-requires c =
-            let count = c.count_in-count.ensures in
+    let count = c.count_in-count.ensures in
     let place = c.page_at-at.ensures in
     let r = room _ _ _ c.requires.0 count place in
     (rw count (scan-room _ c.requires.0).1, rw (← place) (omega (arith, r.1)), c.requires.4)
@@ -66,7 +66,7 @@ load_pages-requires c =
 -- src/reading.rt:25:1
 pub returns : goal.returns
 returns c =
-                                    taken _ _ _ _ _ _ c.count_in-count.ensures c.page_at-at.ensures c.state_length.ensures c.requires.1
+    taken _ _ _ _ _ _ c.count_in-count.ensures c.page_at-at.ensures c.state_length.ensures c.requires.1
     c.if-at-state_length.false _ c.flash_at-flash.ensures _ c.valid.ensures (not-false _ c.if-not-valid.false)
     (record { bytes = c.args.«record».now; array = c.args.array.now; charges = c.args.charges.now }) _ _ _ c.write.ensures
     c.copy.ensures c.load_pages.ensures

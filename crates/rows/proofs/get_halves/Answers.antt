@@ -40,4 +40,4 @@ shape_of-out c = c.loop-i.invariant.1
 
 pub returns : goal.returns
 returns c =
-        let x = c.args in let l = c.loop-i in l.invariant.2 ∙ filled-all 8 x.at x.s.now x.out.now l.i (omega arith)
+    let x = c.args in let l = c.loop-i in l.invariant.2 ∙ filled-all 8 x.at x.s.now x.out.now l.i (omega arith)

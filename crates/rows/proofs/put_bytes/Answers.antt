@@ -29,7 +29,7 @@ loop-i-smaller c = omega arith
 
 pub loop-i-preserved : goal.loop-i-preserved
 loop-i-preserved c =
-        let x = c.args in let l = c.loop-i in (omega arith, simp length-set l.invariant.1, more 1 x.at x.s.now x.v.now l.s _ l.i (x.at + (l.i + 1)) (x.at + l.i) (omega arith) (omega arith) (put_one l.s (x.at + l.i) (get_or x.v.now l.i 0) (omega arith) (omega (arith, c.shared_slice_known-1.given l.i))) l.invariant.2)
+    let x = c.args in let l = c.loop-i in (omega arith, simp length-set l.invariant.1, more 1 x.at x.s.now x.v.now l.s _ l.i (x.at + (l.i + 1)) (x.at + l.i) (omega arith) (omega arith) (put_one l.s (x.at + l.i) (get_or x.v.now l.i 0) (omega arith) (omega (arith, c.shared_slice_known-1.given l.i))) l.invariant.2)
 
 pub shape_of-s : goal.shape_of-s
 shape_of-s c = c.loop-i.invariant.1

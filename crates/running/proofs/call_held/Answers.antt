@@ -7,12 +7,12 @@ use Rattle.running.proofs.call_held.Goals as goal
 
 pub returns-then-number-ne0 : goal.returns-then-number-ne0
 returns-then-number-ne0 c =
-        call-refused _ c.requires.0 _ _ _ _ c.call_refusal-number.ensures c.if-number-ne0.true
+    call-refused _ c.requires.0 _ _ _ _ c.call_refusal-number.ensures c.if-number-ne0.true
 
 pub perform-done-requires : goal.perform-done-requires
 perform-done-requires c =
-                let p = passes _ _ _ _ (sym c.call_refusal-number.ensures ∙ c.if-number-ne0.false) in (ready-fit _ c.requires.0, rw c.call_of.ensures p.placed_is, p.in_time, rw c.call_of.ensures p.enough)
+    let p = passes _ _ _ _ (sym c.call_refusal-number.ensures ∙ c.if-number-ne0.false) in (ready-fit _ c.requires.0, rw c.call_of.ensures p.placed_is, p.in_time, rw c.call_of.ensures p.enough)
 
 pub returns : goal.returns
 returns c =
-                        call-done _ c.requires.0 _ _ _ (sym c.call_refusal-number.ensures ∙ c.if-number-ne0.false) c.requires.1 c.requires.2 (rw c.call_of.ensures at c.perform-done.ensures)
+    call-done _ c.requires.0 _ _ _ (sym c.call_refusal-number.ensures ∙ c.if-number-ne0.false) c.requires.1 c.requires.2 (rw c.call_of.ensures at c.perform-done.ensures)

@@ -27,7 +27,7 @@ put_state-requires c = omega arith
 
 pub returns : goal.returns
 unfolding page_at
-returns c =                         let x = c.args in
+returns c = let x = c.args in
     let k : Chip = record { flash = x.flash; array = x.array.now; charges = x.charges.now } in
     let p = c.page_at.result in
     let m = p + 256 + 18 * option_byte x.flash.registers.verify_pending in

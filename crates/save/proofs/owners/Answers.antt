@@ -43,7 +43,7 @@ loop-i-smaller-then-entry-ne0 c = omega arith
 
 pub loop-i-preserved-then-entry-ne0 : goal.loop-i-preserved-then-entry-ne0
 loop-i-preserved-then-entry-ne0 c = let l = c.loop-i in
-        let xs = c.args.indices.now in
+    let xs = c.args.indices.now in
     let i = l.i - 1 in
     let e : suc i ≡ l.i = omega arith in
     let h : i < length xs = omega arith in
@@ -62,6 +62,6 @@ loop-i-preserved c = let l = c.loop-i in
 
 pub returns : goal.returns
 returns c = let l = c.loop-i in
-        let xs = c.args.indices.now in
+    let xs = c.args.indices.now in
     let e : l.i ≡ 0 = omega arith in
     all-owned xs l.found (rw e at l.invariant.2) c.requires.0 c.requires.1

@@ -10,7 +10,7 @@ use Rattle.save.proofs.put_instants.Goals as goal
 pub returns : goal.returns
 unfolding state_fields
 returns c =
-        let s = c.args.flash in
+    let s = c.args.flash in
     let r = s.registers in
     let g = c.well-formed.1.1.0.1.1 in
     rw (instants-row r.ready r.swe_ready r.program_ready r.erase_ready r.recovery s.pulse_since r.verify_ready

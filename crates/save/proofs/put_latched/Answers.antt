@@ -18,7 +18,7 @@ put_bytes-requires c = omega (arith, slice-aggregate-put-bytes c)
 pub returns : goal.returns
 unfolding state_fields
 returns c =
-        let x = c.args in
+    let x = c.args in
     let k = x.at in
     let s = x.out.now in
     let r = x.flash.registers in

@@ -60,7 +60,7 @@ pub loop-slot-smaller : goal.loop-slot-smaller
 loop-slot-smaller c = omega arith
 
 pub loop-slot-preserved : goal.loop-slot-preserved
-loop-slot-preserved c =                     let l = c.loop-slot in
+loop-slot-preserved c = let l = c.loop-slot in
     let x = c.args in
     (omega arith, omega arith, omega arith, pages-more x.indices.now x.charges.now l.slot c.page_at.result c.page_at-in-loop-slot.result _ l.out c.put16.new.0 c.put_halves.new.0 (take pages_place x.out.now) c.page_at.ensures c.page_at-in-loop-slot.ensures (c.owners-owners.ensures l.slot (omega arith)) (omega arith) c.put16.ensures c.put_halves.ensures l.invariant.3)
 

@@ -14,12 +14,12 @@ use Rattle.save.proofs.put_pending.Goals as goal
 
 pub put16-requires : goal.put16-requires
 put16-requires c =
-        let h = rw c.in-Sense.is at c.requires in
+    let h = rw c.in-Sense.is at c.requires in
     simp length-set (omega arith)
 
 pub put_halves-requires : goal.put_halves-requires
 put_halves-requires c =
-            let h = rw c.in-Sense.is at c.requires in
+    let h = rw c.in-Sense.is at c.requires in
     omega (arith, length-set c.args.out.now c.args.at 1)
 
 pub returns-in-Nothing : goal.returns-in-Nothing
@@ -34,7 +34,7 @@ shape_of-out-in-Sense c =
 
 pub returns-in-Sense : goal.returns-in-Sense
 returns-in-Sense c =
-                let x = c.args in
+    let x = c.args in
     let k = x.at in
     let s = x.out.now in
     let v = c.sense-1.given.0 in

@@ -13,7 +13,7 @@ use Rattle.save.proofs.put_state.Goals as goal
 
 pub slice_bounds-put_bytes-end : goal.slice_bounds-put_bytes-end
 slice_bounds-put_bytes-end c =
-            search (rules, c.well-formed.1.1.0.1.1.1.1)
+    search (rules, c.well-formed.1.1.0.1.1.1.1)
 
 pub put_bytes-requires : goal.put_bytes-requires
 put_bytes-requires c = omega (arith, slice-aggregate-put-bytes c)
@@ -21,7 +21,7 @@ put_bytes-requires c = omega (arith, slice-aggregate-put-bytes c)
 pub returns : goal.returns
 unfolding state_fields
 returns c =
-                        let x = c.args in
+    let x = c.args in
     let k = x.at in
     let v = state_fields x.flash in
     let e = c.put_pending-end.result in

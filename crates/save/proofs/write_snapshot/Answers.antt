@@ -27,7 +27,7 @@ pub read-flash-requires : goal.read-flash-requires
 read-flash-requires c = let a = c.args in (sizes-fit (length a.«record».now) (length a.array.now) (length a.charges.now) (sym c.sizes_misfit.ensures ∙ c.if-sizes_misfit.false)).record_long
 
 pub returns-then-out-length : goal.returns-then-out-length
-returns-then-out-length c =                             let x = c.args in
+returns-then-out-length c = let x = c.args in
     let m : Memory = record { bytes = x.«record».now; array = x.array.now; charges = x.charges.now } in
     let a : misfits m ≡ false = sym c.sizes_misfit.ensures ∙ c.if-sizes_misfit.false in
     let b : accepted m.bytes ≡ true = sym c.accepts.ensures ∙ not-false _ c.if-not-accepts.false in
@@ -36,14 +36,14 @@ returns-then-out-length c =                             let x = c.args in
     told-8 m x.out.now a b n e c.if-out-length.true
 
 pub fill-requires : goal.fill-requires
-fill-requires c =                         let x = c.args in
+fill-requires c = let x = c.args in
     let m : Memory = record { bytes = x.«record».now; array = x.array.now; charges = x.charges.now } in
     let z = sizes-fit _ _ _ (sym c.sizes_misfit.ensures ∙ c.if-sizes_misfit.false) in
     let f = fitted m z (sym c.accepts.ensures ∙ not-false _ c.if-not-accepts.false) in
     (f.array_long, f.charges_long, rw c.read-flash.ensures f.index_long, rw c.read-flash.ensures f.slots, c.opened-count.ensures.0, length-take-le (c.snapshot_length-length.result - 0) x.out.now (omega arith) ∙ omega arith)
 
 pub returns : goal.returns
-returns c =                                     let x = c.args in
+returns c = let x = c.args in
     let m : Memory = record { bytes = x.«record».now; array = x.array.now; charges = x.charges.now } in
     let a : misfits m ≡ false = sym c.sizes_misfit.ensures ∙ c.if-sizes_misfit.false in
     let b : accepted m.bytes ≡ true = sym c.accepts.ensures ∙ not-false _ c.if-not-accepts.false in

@@ -12,17 +12,17 @@ returns-then-bytes-at c = rw (lt-ltb _ _ c.if-bytes-at.true)
 pub returns-then-not-placed : goal.returns-then-not-placed
 unfolding address_number
 returns-then-not-placed c =
-        rw (le-ltb _ _ c.if-bytes-at.false, ← c.get16-address.ensures, sym c.placed.ensures ∙ not-true _ c.if-not-placed.true)
+    rw (le-ltb _ _ c.if-bytes-at.false, ← c.get16-address.ensures, sym c.placed.ensures ∙ not-true _ c.if-not-placed.true)
 
 pub bounds-indices-wide : goal.bounds-indices-wide
 bounds-indices-wide c =
-        let l = placed-page c.get16-address.result (sym c.placed.ensures ∙ not-false _ c.if-not-placed.false) in
+    let l = placed-page c.get16-address.result (sym c.placed.ensures ∙ not-false _ c.if-not-placed.false) in
     omega arith
 
 pub returns-then-indices-wide-ne0 : goal.returns-then-indices-wide-ne0
 unfolding address_number
 returns-then-indices-wide-ne0 c =
-                rw (
+    rw (
       le-ltb _ _ c.if-bytes-at.false,
       ← c.get16-address.ensures,
       sym c.placed.ensures ∙ not-false _ c.if-not-placed.false,
@@ -32,7 +32,7 @@ returns-then-indices-wide-ne0 c =
 pub returns : goal.returns
 unfolding address_number
 returns c =
-                rw (
+    rw (
       le-ltb _ _ c.if-bytes-at.false,
       ← c.get16-address.ensures,
       sym c.placed.ensures ∙ not-false _ c.if-not-placed.false,

@@ -14,7 +14,7 @@ overflow_add-at c = omega arith
 
 pub returns-then-bytes-at : goal.returns-then-bytes-at
 returns-then-bytes-at c =
-        sym (c.loop-i.invariant.1 ∙ limit-next _ _ _ _ c.loop-i-test.true ∙ rw (le-leb _ _ c.if-bytes-at.true))
+    sym (c.loop-i.invariant.1 ∙ limit-next _ _ _ _ c.loop-i-test.true ∙ rw (le-leb _ _ c.if-bytes-at.true))
 
 pub bounds-limits-i : goal.bounds-limits-i
 bounds-limits-i c = omega arith
@@ -27,7 +27,7 @@ bounds-bytes-at c = omega arith
 
 pub returns-then-limits-i : goal.returns-then-limits-i
 returns-then-limits-i c =
-            sym (c.loop-i.invariant.1 ∙ limit-next _ _ _ _ c.loop-i-test.true ∙ rw (lt-leb _ _ c.if-bytes-at.false, lt-leb _ _ c.if-limits-i.true))
+    sym (c.loop-i.invariant.1 ∙ limit-next _ _ _ _ c.loop-i-test.true ∙ rw (lt-leb _ _ c.if-bytes-at.false, lt-leb _ _ c.if-limits-i.true))
 
 pub overflow_add-i : goal.overflow_add-i
 overflow_add-i c = omega arith
@@ -37,7 +37,7 @@ loop-i-smaller c = omega arith
 
 pub loop-i-preserved : goal.loop-i-preserved
 loop-i-preserved c =
-            let e : c.args.at + (c.loop-i.i + 1) ≡ suc (c.args.at + c.loop-i.i) = omega arith in (
+    let e : c.args.at + (c.loop-i.i + 1) ≡ suc (c.args.at + c.loop-i.i) = omega arith in (
       omega arith,
       c.loop-i.invariant.1 ∙ limit-next _ _ _ _ c.loop-i-test.true
           ∙ rw (lt-leb _ _ c.if-bytes-at.false, le-leb _ _ c.if-limits-i.false, e, add-one),

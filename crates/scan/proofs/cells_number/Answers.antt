@@ -5,11 +5,11 @@ use Rattle.scan.proofs.cells_number.Goals as goal
 
 pub returns-then-none_over : goal.returns-then-none_over
 returns-then-none_over c =
-        sym (cells_cut _ _ _ _ true c.if-there-count.true (omega arith) (rw c.if-none_over.true at c.none_over.ensures))
+    sym (cells_cut _ _ _ _ true c.if-there-count.true (omega arith) (rw c.if-none_over.true at c.none_over.ensures))
 
 pub returns-else-none_over : goal.returns-else-none_over
 returns-else-none_over c =
-        sym (cells_cut _ _ _ _ false c.if-there-count.true (omega arith) (rw c.if-none_over.false at c.none_over.ensures))
+    sym (cells_cut _ _ _ _ false c.if-there-count.true (omega arith) (rw c.if-none_over.false at c.none_over.ensures))
 
 pub returns-then-none_over-2 : goal.returns-then-none_over-2
 returns-then-none_over-2 c = sym (rw c.if-none_over-2.true at c.none_over-2.ensures)

@@ -25,7 +25,7 @@ loop-i-smaller c = omega arith
 
 pub loop-i-preserved : goal.loop-i-preserved
 loop-i-preserved c =
-            looked-more c.loop-i.invariant c.over-all.result c.loop-i-test.true c.requires (rw c.get64.ensures at c.over-all.ensures)
+    looked-more c.loop-i.invariant c.over-all.result c.loop-i-test.true c.requires (rw c.get64.ensures at c.over-all.ensures)
 
 pub returns : goal.returns
 returns c = looked-through c.loop-i.invariant c.loop-i-test.false

@@ -19,11 +19,11 @@ returns-then-count-gt-PAGES c = (
 
 pub scan_pages-number-requires : goal.scan_pages-number-requires
 scan_pages-number-requires c =
-        (c.if-count-gt-PAGES.false, ap length c.requires ∙ length-no_pages)
+    (c.if-count-gt-PAGES.false, ap length c.requires ∙ length-no_pages)
 
 pub returns-then-number-ne0 : goal.returns-then-number-ne0
 returns-then-number-ne0 c =
-                    let n = counted _ _ _ c.if-bytes-lt-FIRST_PAGE.false c.count_in-count.ensures c.if-count-gt-PAGES.false c.requires in
+    let n = counted _ _ _ c.if-bytes-lt-FIRST_PAGE.false c.count_in-count.ensures c.if-count-gt-PAGES.false c.requires in
     (first_stops _ c.scan_pages-number.ensures.0 c.if-number-ne0.true ∙ sym n, λ z. absurd (c.if-number-ne0.true z))
 
 pub state_number-requires : goal.state_number-requires
@@ -31,7 +31,7 @@ state_number-requires c = rw c.page_at.ensures (place-small _ c.if-count-gt-PAGE
 
 pub returns : goal.returns
 returns c =
-                        let e = c.scan_pages-number.ensures in
+    let e = c.scan_pages-number.ensures in
     let k = c.count_in-count.ensures in
     let n = counted _ _ _ c.if-bytes-lt-FIRST_PAGE.false k c.if-count-gt-PAGES.false c.requires in (
       c.state_number.ensures ∙ rw c.page_at.ensures (sym (n ∙ first_passes _ e.0 c.if-number-ne0.false)),

@@ -22,7 +22,7 @@ overflow_add-at c = omega arith
 
 pub loop-i-init : goal.loop-i-init
 loop-i-init c =
-        let a = address-fits _ _ _ (sym c.address_number-number.ensures ∙ c.if-number-ne0.false) in
+    let a = address-fits _ _ _ (sym c.address_number-number.ensures ∙ c.if-number-ne0.false) in
     record { none = c.if-number-ne0.false; most = omega arith; quarters = refl; there = omega arith; fits = a.0; rest = refl }
 
 pub cells_number-number-requires : goal.cells_number-number-requires
@@ -42,7 +42,7 @@ loop-i-smaller c = omega arith
 
 pub loop-i-preserved : goal.loop-i-preserved
 loop-i-preserved c =
-        quarter-good c.loop-i.invariant c.loop-i-test.true c.cells_number-number.ensures c.if-number-ne0-2.false
+    quarter-good c.loop-i.invariant c.loop-i-test.true c.cells_number-number.ensures c.if-number-ne0-2.false
 
 pub overflow_add-slot : goal.overflow_add-slot
 overflow_add-slot c = omega arith
@@ -53,7 +53,7 @@ pages-smaller c = omega arith
 pub pages-preserved : goal.pages-preserved
 pages-preserved c =
     let l = c.loop-i.invariant in
-                page-good c.pages.invariant c.pages-test.true (sym c.address_number-number.ensures ∙ c.if-number-ne0.false)
+    page-good c.pages.invariant c.pages-test.true (sym c.address_number-number.ensures ∙ c.if-number-ne0.false)
     (cells-through l c.loop-i-test.false) l.none c.enter_page.ensures (omega arith) (omega arith)
 
 pub shape_of-indices-after-pages : goal.shape_of-indices-after-pages
@@ -67,13 +67,13 @@ shape_of-indices-then-number-ne0 c = c.pages.invariant.long
 
 pub returns-then-number-ne0 : goal.returns-then-number-ne0
 returns-then-number-ne0 c =
-        (address-bad c.pages.invariant c.pages-test.true c.address_number-number.ensures c.if-number-ne0.true, λ e. absurd (c.if-number-ne0.true e))
+    (address-bad c.pages.invariant c.pages-test.true c.address_number-number.ensures c.if-number-ne0.true, λ e. absurd (c.if-number-ne0.true e))
 
 pub shape_of-indices-then-number-ne0-2 : goal.shape_of-indices-then-number-ne0-2
 shape_of-indices-then-number-ne0-2 c = omega arith
 
 pub returns-then-number-ne0-2 : goal.returns-then-number-ne0-2
 returns-then-number-ne0-2 c =
-                let fine = sym c.address_number-number.ensures ∙ c.if-number-ne0.false in
+    let fine = sym c.address_number-number.ensures ∙ c.if-number-ne0.false in
     let bad = quarter-bad c.loop-i.invariant c.loop-i-test.true c.cells_number-number.ensures c.if-number-ne0-2.true in
     (cells-bad c.pages.invariant c.pages-test.true fine bad c.if-number-ne0-2.true, λ e. absurd (c.if-number-ne0-2.true e))

@@ -15,7 +15,7 @@ returns-then-bytes-at c = rw (sym c.bytes_number-number.ensures ∙ c.if-number-
 pub returns-then-number-ne0-2 : goal.returns-then-number-ne0-2
 unfolding state_number
 returns-then-number-ne0-2 c =
-                rw (
+    rw (
       sym c.bytes_number-number.ensures ∙ c.if-number-ne0.false,
       le-ltb _ _ c.if-bytes-at.false,
     ) (first_stops _ c.bytes_number-number-2.ensures c.if-number-ne0-2.true)
@@ -23,7 +23,7 @@ returns-then-number-ne0-2 c =
 pub returns-then-bytes-at-2 : goal.returns-then-bytes-at-2
 unfolding state_number
 returns-then-bytes-at-2 c =
-                rw (
+    rw (
       sym c.bytes_number-number.ensures ∙ c.if-number-ne0.false,
       le-ltb _ _ c.if-bytes-at.false,
       sym c.bytes_number-number-2.ensures ∙ c.if-number-ne0-2.false,
@@ -33,7 +33,7 @@ returns-then-bytes-at-2 c =
 pub returns-then-number-ne0-3 : goal.returns-then-number-ne0-3
 unfolding state_number
 returns-then-number-ne0-3 c =
-                            rw (
+    rw (
       sym c.bytes_number-number.ensures ∙ c.if-number-ne0.false,
       le-ltb _ _ c.if-bytes-at.false,
       sym c.bytes_number-number-2.ensures ∙ c.if-number-ne0-2.false,
@@ -42,17 +42,17 @@ returns-then-number-ne0-3 c =
 
 pub state_length-requires : goal.state_length-requires
 state_length-requires c =
-        let l = byte-there 1 [] c.args.bytes.now (c.args.at + 251) (sym c.bytes_number-number-3.ensures ∙ c.if-number-ne0-3.false) in
+    let l = byte-there 1 [] c.args.bytes.now (c.args.at + 251) (sym c.bytes_number-number-3.ensures ∙ c.if-number-ne0-3.false) in
     omega arith
 
 pub overflow_add-at-5 : goal.overflow_add-at-5
 overflow_add-at-5 c =
-        omega (arith, state-small c.args.bytes.now c.args.at)
+    omega (arith, state-small c.args.bytes.now c.args.at)
 
 pub returns-then-bytes-at-3 : goal.returns-then-bytes-at-3
 unfolding state_number
 returns-then-bytes-at-3 c =
-                                rw (
+    rw (
       sym c.bytes_number-number.ensures ∙ c.if-number-ne0.false,
       le-ltb _ _ c.if-bytes-at.false,
       sym c.bytes_number-number-2.ensures ∙ c.if-number-ne0-2.false,
@@ -65,7 +65,7 @@ returns-then-bytes-at-3 c =
 pub returns : goal.returns
 unfolding state_number
 returns c =
-                                rw (
+    rw (
       sym c.bytes_number-number.ensures ∙ c.if-number-ne0.false,
       le-ltb _ _ c.if-bytes-at.false,
       sym c.bytes_number-number-2.ensures ∙ c.if-number-ne0-2.false,

@@ -17,10 +17,10 @@ read-flash-requires c = (looks _ _ _ _ _ c.look_refusal-number.ensures c.if-numb
 
 pub blank_page-requires : goal.blank_page-requires
 blank_page-requires c =
-        let k = looks _ _ _ _ _ c.look_refusal-number.ensures c.if-number-ne0.false in
+    let k = looks _ _ _ _ _ c.look_refusal-number.ensures c.if-number-ne0.false in
     (rw c.read-flash.ensures (fitted _ k.sizes k.accepted_is), leb-false _ _ (sym c.past_end.ensures ∙ k.placed_is))
 
 pub returns : goal.returns
 unfolding blank_refusal blank_answer
 returns c =
-                shown (rw c.past_end.ensures at c.look_refusal-number.ensures) c.if-number-ne0.false (rw (c.flag_byte.ensures, c.blank_page.ensures, c.read-flash.ensures))
+    shown (rw c.past_end.ensures at c.look_refusal-number.ensures) c.if-number-ne0.false (rw (c.flag_byte.ensures, c.blank_page.ensures, c.read-flash.ensures))

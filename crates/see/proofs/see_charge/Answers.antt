@@ -15,10 +15,10 @@ read-flash-requires c = (looks _ _ _ _ _ c.look_refusal-number.ensures c.if-numb
 
 pub cell_charge-requires : goal.cell_charge-requires
 cell_charge-requires c =
-        let k = looks _ _ _ _ _ c.look_refusal-number.ensures c.if-number-ne0.false in
+    let k = looks _ _ _ _ _ c.look_refusal-number.ensures c.if-number-ne0.false in
     (rw c.read-flash.ensures (fitted _ k.sizes k.accepted_is), cell-inside _ _ (rw c.past_end.ensures at k.placed_is))
 
 pub returns : goal.returns
 unfolding charge_refusal charge_answer
 returns c =
-            shown (rw c.past_end.ensures at c.look_refusal-number.ensures) c.if-number-ne0.false (rw (c.cell_charge.ensures, c.read-flash.ensures))
+    shown (rw c.past_end.ensures at c.look_refusal-number.ensures) c.if-number-ne0.false (rw (c.cell_charge.ensures, c.read-flash.ensures))

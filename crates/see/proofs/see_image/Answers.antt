@@ -18,9 +18,9 @@ read-flash-requires c = (looks _ _ _ _ _ c.look_refusal-number.ensures c.if-numb
 
 pub image-requires : goal.image-requires
 image-requires c =
-            let k = looks _ _ _ _ _ c.look_refusal-number.ensures c.if-number-ne0.false in
+    let k = looks _ _ _ _ _ c.look_refusal-number.ensures c.if-number-ne0.false in
     (rw c.read-flash.ensures (fitted _ k.sizes k.accepted_is), omega (arith, c.if-out-lt-FLASH_SIZE.false))
 
 pub returns : goal.returns
 returns c =
-                    (image-done _ _ _ c.look_refusal-number.ensures c.if-number-ne0.false c.if-out-lt-FLASH_SIZE.false, rw (c.image.ensures, c.read-flash.ensures))
+    (image-done _ _ _ c.look_refusal-number.ensures c.if-number-ne0.false c.if-out-lt-FLASH_SIZE.false, rw (c.image.ensures, c.read-flash.ensures))

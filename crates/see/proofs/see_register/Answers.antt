@@ -11,4 +11,4 @@ read-flash-requires c = c.record_refusal-number.ensures.1 c.if-number-ne0.false
 pub returns : goal.returns
 unfolding register_answer
 returns c =
-            shown c.record_refusal-number.ensures.0 c.if-number-ne0.false (rw (c.register.ensures, c.read-flash.ensures))
+    shown c.record_refusal-number.ensures.0 c.if-number-ne0.false (rw (c.register.ensures, c.read-flash.ensures))

@@ -46,7 +46,7 @@ pub returns : goal.returns
 unfolding ceiling_table
 returns c =
     let l = c.loop-i in
-            let e : l.i ≡ 256 = omega arith in
+    let e : l.i ≡ 256 = omega arith in
     let rule = by-class-there c.classes-table.result c.row-by_class.result in
     l.invariant.1
     ∙ partly-all rule (replicate 256 0) _ e

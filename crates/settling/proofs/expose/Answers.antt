@@ -33,7 +33,7 @@ opened-next-requires c = c.requires.0
 
 pub loop-i-init : goal.loop-i-init
 loop-i-init c =
-        let x = c.args in
+    let x = c.args in
     let k = cells x.indices.now x.array.now x.charges.now in
     let slots = slots-from x.indices.now x.charges.now c.requires.0 c.requires.3 c.requires.1 in
     (omega arith, turned_none x.pulse x.latch.now (span x.exposure) k x.events.now c.opened-next.result slots c.opened-next.ensures.0)
@@ -43,7 +43,7 @@ overflow_add-page c = omega arith
 
 pub charge_page-slot-requires : goal.charge_page-slot-requires
 charge_page-slot-requires c =
-            let t = c.loop-i.invariant.1 in
+    let t = c.loop-i.invariant.1 in
     let z = turned-slots t in
     (z.pages, slots-sound z, stored-length t.stored ∙ c.requires.2, z.room, omega arith, t.next_is)
 
@@ -55,7 +55,7 @@ overflow_add-next c =
 
 pub resense_page-count-requires : goal.resense_page-count-requires
 resense_page-count-requires c =
-                    let x = c.args in
+    let x = c.args in
     let l = c.loop-i in
     let t = l.invariant.1 in
     let e = c.charge_page-slot.ensures in
@@ -78,7 +78,7 @@ loop-i-smaller c = omega arith
 
 pub loop-i-preserved : goal.loop-i-preserved
 loop-i-preserved c =
-                            let x = c.args in
+    let x = c.args in
     let l = c.loop-i in
     let t = l.invariant.1 in
     let e = c.charge_page-slot.ensures in
@@ -93,21 +93,21 @@ loop-i-preserved c =
 
 pub shape_of-indices : goal.shape_of-indices
 shape_of-indices c =
-        (turned-slots c.loop-i.invariant.1).pages ∙ sym c.requires.0
+    (turned-slots c.loop-i.invariant.1).pages ∙ sym c.requires.0
 
 pub shape_of-array : goal.shape_of-array
 shape_of-array c = stored-length c.loop-i.invariant.1.stored
 
 pub shape_of-charges : goal.shape_of-charges
 shape_of-charges c =
-        (turned-slots c.loop-i.invariant.1).room ∙ sym c.requires.3
+    (turned-slots c.loop-i.invariant.1).room ∙ sym c.requires.3
 
 pub shape_of-events : goal.shape_of-events
 shape_of-events c = stored-events c.loop-i.invariant.1.stored
 
 pub returns : goal.returns
 returns c =
-                    let x = c.args in
+    let x = c.args in
     let l = c.loop-i in
     let t = l.invariant.1 in
     let e : l.i ≡ x.pulse.pages = omega arith in

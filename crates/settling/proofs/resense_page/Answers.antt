@@ -31,7 +31,7 @@ page-sensed m address slot charges a h k =
 
 pub returns : goal.returns
 returns c =
-            let x = c.args in
+    let x = c.args in
     let e = c.store_page.ensures in
     let sensed = page-sensed Normal (x.page * 128) x.slot x.charges.now in
     (e.0 ∙ spanned-same (x.page * 128) (x.page * 128 + 128) _ _ x.array.now (λ a h k _. rw c.sense_page.ensures (sensed a h k)), e.1, e.2)

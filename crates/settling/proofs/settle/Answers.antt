@@ -11,7 +11,7 @@ use Rattle.settling.proofs.settle.Goals as goal
 
 pub expose-requires : goal.expose-requires
 expose-requires c =
-        let p = c.requires in
+    let p = c.requires in
     let o = c.in-Open.is in
     (p.0, p.1, p.2, p.3, rw o at p.4, rw o at p.5)
 
@@ -24,7 +24,7 @@ returns-in-Closed c =
 pub returns-in-Open : goal.returns-in-Open
 unfolding settled_by exposure
 returns-in-Open c =
-                    let x = c.args in
+    let x = c.args in
     let from = later x.since c.in-Open.p.ready in
     let e : span c.since-exposure.result ≡ raw x.time - raw from = rw (c.since-exposure.ensures, c.max.ensures) (span-since x.time from) in
     rw (c.in-Open.is, ← e) c.expose.ensures

@@ -12,7 +12,7 @@ use Rattle.settling.proofs.store_page.Goals as goal
 
 pub loop-i-init : goal.loop-i-init
 loop-i-init c =
-        let x = c.args in
+    let x = c.args in
     (omega arith, c.requires.0, refl, omega arith, rw (add-zero x.address) (stored-none x.array.now x.events.now x.count x.address _))
 
 pub overflow_add-old : goal.overflow_add-old
@@ -54,7 +54,7 @@ loop-i-smaller c = omega arith
 pub loop-i-preserved : goal.loop-i-preserved
 loop-i-preserved c =
     let l = c.loop-i in
-        let x = c.args in
+    let x = c.args in
     let hi = x.address + l.i in
     let in_array : hi < length x.array.now = omega arith in
     let value : at x.bytes.now l.i ≡ at x.bytes.now (hi - x.address) = ap (at x.bytes.now) (omega arith) in

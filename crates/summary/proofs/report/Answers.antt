@@ -9,4 +9,4 @@ returns-then-number-ne0 c = reports-refused _ _ c.image_at-number.ensures.number
 
 pub returns : goal.returns
 returns c =
-                reports-shown _ _ _ _ _ _ _ _ _ _ _ c.if-number-ne0.false c.image_at-number.ensures c.marks_for-marks.ensures c.summary.ensures
+    reports-shown _ _ _ _ _ _ _ _ _ _ _ c.if-number-ne0.false c.image_at-number.ensures c.marks_for-marks.ensures c.summary.ensures

@@ -8,6 +8,6 @@ use Rattle.summary.proofs.summary.Goals as goal
 pub returns : goal.returns
 unfolding summary_text
 returns c =
-                    puts-append _ _ _ _ _ _ _ _
+    puts-append _ _ _ _ _ _ _ _
     (puts-append _ _ _ _ _ _ _ _ (puts-append _ _ _ _ _ _ _ _ c.put_counts-counted.ensures c.put_pages-paged.ensures) c.put_map-mapped.ensures)
     c.put_judged.ensures

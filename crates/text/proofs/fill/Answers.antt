@@ -17,7 +17,7 @@ overflow_add-used c = omega (arith, c.taken-used.ensures, taken-most c.mark_of.r
 
 pub loop-i-preserved : goal.loop-i-preserved
 loop-i-preserved c =
-            let inside : c.loop-i.i < length c.args.template.now = search rules in (
+    let inside : c.loop-i.i < length c.args.template.now = search rules in (
       search rules,
       omega (arith, c.taken-used.ensures, taken-most c.mark_of.result),
       c.put_piece-end.auto.0 ∙ c.loop-i.invariant.2,

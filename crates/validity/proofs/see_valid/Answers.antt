@@ -21,7 +21,7 @@ returns-then-not-legible c =
 pub returns-then-last_second : goal.returns-then-last_second
 unfolding valid_refusal
 returns-then-last_second c =
-            shown-refused (rw (
+    shown-refused (rw (
       eq-eqb _ _ c.if-record-ne-RECORD_LEN.false,
       sym c.legible.ensures ∙ not-false _ c.if-not-legible.false,
       sym c.last_second.ensures ∙ c.if-last_second.true,
@@ -31,7 +31,7 @@ returns-then-last_second c =
 pub returns : goal.returns
 unfolding valid_refusal valid_answer
 returns c =
-                shown {number = 0} (rw (
+    shown {number = 0} (rw (
       eq-eqb _ _ c.if-record-ne-RECORD_LEN.false,
       sym c.legible.ensures ∙ not-false _ c.if-not-legible.false,
       sym c.last_second.ensures ∙ c.if-last_second.false,

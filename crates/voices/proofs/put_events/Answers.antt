@@ -18,7 +18,7 @@ loop-i-init c = (search rules, search rules, puts_none _ _)
 
 pub loop-i-preserved : goal.loop-i-preserved
 loop-i-preserved c =
-            let words = c.args.words.now in
+    let words = c.args.words.now in
     let inside : c.loop-i.i < length words = search rules in (
       search rules,
       c.event-end.auto.0 ∙ c.loop-i.invariant.1,

@@ -7,4 +7,4 @@ use Rattle.waits.proofs.recovery_after.Goals as goal
 pub returns : goal.returns
 unfolding recovery_after
 returns c =
-                                            rw (c.raised.ensures, c.falls-7.ensures, c.raised-d.ensures, c.falls-6.ensures, c.raised-c.ensures, c.falls-5.ensures, c.raised-b.ensures, c.raised-a.ensures, c.falls-4.ensures, c.falls-3.ensures, c.falls-2.ensures, c.falls.ensures)
+    rw (c.raised.ensures, c.falls-7.ensures, c.raised-d.ensures, c.falls-6.ensures, c.raised-c.ensures, c.falls-5.ensures, c.raised-b.ensures, c.raised-a.ensures, c.falls-4.ensures, c.falls-3.ensures, c.falls-2.ensures, c.falls.ensures)

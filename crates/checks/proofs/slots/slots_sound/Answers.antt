@@ -32,7 +32,7 @@ overflow_cast-entry c = omega (arith, c.shared_slice_known-in-loop-i-1.given (c.
 
 pub returns-then-used-entry : goal.returns-then-used-entry
 returns-then-used-entry c =
-                let xs = c.args.indices.now in
+    let xs = c.args.indices.now in
     let l = c.loop-i in
     let i = l.i - 1 in
     let h : i < length xs = omega arith in
@@ -40,11 +40,11 @@ returns-then-used-entry c =
 
 pub bounds-marked-entry : goal.bounds-marked-entry
 bounds-marked-entry c =
-        let o = c.opened-used.ensures in omega arith
+    let o = c.opened-used.ensures in omega arith
 
 pub returns-then-marked-entry : goal.returns-then-marked-entry
 returns-then-marked-entry c =
-                let xs = c.args.indices.now in
+    let xs = c.args.indices.now in
     let l = c.loop-i in
     let i = l.i - 1 in
     let h : i < length xs = omega arith in
@@ -53,14 +53,14 @@ returns-then-marked-entry c =
 
 pub bounds-marked-entry-in-loop-i : goal.bounds-marked-entry-in-loop-i
 bounds-marked-entry-in-loop-i c =
-        let o = c.opened-used.ensures in omega arith
+    let o = c.opened-used.ensures in omega arith
 
 pub loop-i-smaller : goal.loop-i-smaller
 loop-i-smaller c = omega arith
 
 pub loop-i-preserved : goal.loop-i-preserved
 loop-i-preserved c =
-                let xs = c.args.indices.now in
+    let xs = c.args.indices.now in
     let l = c.loop-i in
     let i = l.i - 1 in
     let h : i < length xs = omega arith in
@@ -69,7 +69,7 @@ loop-i-preserved c =
 
 pub returns : goal.returns
 returns c =
-        let xs = c.args.indices.now in
+    let xs = c.args.indices.now in
     let l = c.loop-i in
     let e : l.i ≡ 0 = omega arith in
     let p : Passed c.opened-used.result 0 xs l.marked = rw e at l.invariant.2 in

@@ -8,7 +8,7 @@ use Rattle.coding.proofs.state.registers_of.Goals as goal
 pub returns : goal.returns
 unfolding registers_of
 returns c =
-        let x = c.args in
+    let x = c.args in
     λ i. record {
       control = at x.t1 0;
       error = flag_of (at x.t1 1);

@@ -12,9 +12,9 @@ returns-then-from-to c = rw (← c.word_at-word.ensures.is, eq-eqb _ _ c.if-from
 pub returns-in-Wrong : goal.returns-in-Wrong
 unfolding look_line
 returns-in-Wrong c =
-                rw (← c.word_at-word.ensures.is, ne_eqb _ _ c.if-from-to.false, sym c.address_in.ensures ∙ c.in-Wrong.is)
+    rw (← c.word_at-word.ensures.is, ne_eqb _ _ c.if-from-to.false, sym c.address_in.ensures ∙ c.in-Wrong.is)
 
 pub returns-in-Is : goal.returns-in-Is
 unfolding look_line
 returns-in-Is c =
-                rw (← c.word_at-word.ensures.is, ne_eqb _ _ c.if-from-to.false, sym c.address_in.ensures ∙ c.in-Is.is) c.cell_line.ensures
+    rw (← c.word_at-word.ensures.is, ne_eqb _ _ c.if-from-to.false, sym c.address_in.ensures ∙ c.in-Is.is) c.cell_line.ensures

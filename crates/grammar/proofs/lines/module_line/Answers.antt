@@ -7,9 +7,9 @@ use Rattle.grammar.proofs.lines.module_line.Goals as goal
 pub returns-in-Wrong : goal.returns-in-Wrong
 unfolding module_line
 returns-in-Wrong c =
-            rw (← c.word_at-word.ensures.is, sym c.module_in.ensures ∙ c.in-Wrong.is)
+    rw (← c.word_at-word.ensures.is, sym c.module_in.ensures ∙ c.in-Wrong.is)
 
 pub returns-in-Is : goal.returns-in-Is
 unfolding module_line
 returns-in-Is c =
-            rw (← c.word_at-word.ensures.is, sym c.module_in.ensures ∙ c.«module».given.1) c.oscillator_line.ensures
+    rw (← c.word_at-word.ensures.is, sym c.module_in.ensures ∙ c.«module».given.1) c.oscillator_line.ensures

@@ -7,9 +7,9 @@ use Rattle.grammar.proofs.lines.write_line.Goals as goal
 pub returns-in-Wrong : goal.returns-in-Wrong
 unfolding write_line
 returns-in-Wrong c =
-            rw (← c.word_at-word.ensures.is, sym c.register_in.ensures ∙ c.in-Wrong.is)
+    rw (← c.word_at-word.ensures.is, sym c.register_in.ensures ∙ c.in-Wrong.is)
 
 pub returns-in-Is : goal.returns-in-Is
 unfolding write_line
 returns-in-Is c =
-            rw (← c.word_at-word.ensures.is, sym c.register_in.ensures ∙ c.in-Is.is) c.value_line.ensures
+    rw (← c.word_at-word.ensures.is, sym c.register_in.ensures ∙ c.in-Is.is) c.value_line.ensures

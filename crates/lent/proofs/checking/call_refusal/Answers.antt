@@ -11,19 +11,19 @@ returns-then-misplaced c = rw (sym c.misplaced.ensures ∙ c.if-misplaced.true)
 pub returns-then-last_second : goal.returns-then-last_second
 unfolding call_refusal
 returns-then-last_second c =
-        rw (sym c.misplaced.ensures ∙ c.if-misplaced.false, sym c.last_second.ensures ∙ c.if-last_second.true)
+    rw (sym c.misplaced.ensures ∙ c.if-misplaced.false, sym c.last_second.ensures ∙ c.if-last_second.true)
 
 pub returns-then-earlier : goal.returns-then-earlier
 unfolding call_refusal
 returns-then-earlier c =
-                rw (sym c.misplaced.ensures ∙ c.if-misplaced.false, sym c.last_second.ensures ∙ c.if-last_second.false, sym c.earlier.ensures ∙ c.if-earlier.true)
+    rw (sym c.misplaced.ensures ∙ c.if-misplaced.false, sym c.last_second.ensures ∙ c.if-last_second.false, sym c.earlier.ensures ∙ c.if-earlier.true)
 
 pub returns-then-settles-too_few_words : goal.returns-then-settles-too_few_words
 unfolding call_refusal
 returns-then-settles-too_few_words c =
-                                    rw (sym c.misplaced.ensures ∙ c.if-misplaced.false, sym c.last_second.ensures ∙ c.if-last_second.false, sym c.earlier.ensures ∙ c.if-earlier.false, rw (c.settles.ensures, c.call_of.ensures, c.too_few_words.ensures, c.pulse.ensures) at c.if-settles-too_few_words.true)
+    rw (sym c.misplaced.ensures ∙ c.if-misplaced.false, sym c.last_second.ensures ∙ c.if-last_second.false, sym c.earlier.ensures ∙ c.if-earlier.false, rw (c.settles.ensures, c.call_of.ensures, c.too_few_words.ensures, c.pulse.ensures) at c.if-settles-too_few_words.true)
 
 pub returns : goal.returns
 unfolding call_refusal
 returns c =
-                                    rw (sym c.misplaced.ensures ∙ c.if-misplaced.false, sym c.last_second.ensures ∙ c.if-last_second.false, sym c.earlier.ensures ∙ c.if-earlier.false, rw (c.settles.ensures, c.call_of.ensures, c.too_few_words.ensures, c.pulse.ensures) at c.if-settles-too_few_words.false)
+    rw (sym c.misplaced.ensures ∙ c.if-misplaced.false, sym c.last_second.ensures ∙ c.if-last_second.false, sym c.earlier.ensures ∙ c.if-earlier.false, rw (c.settles.ensures, c.call_of.ensures, c.too_few_words.ensures, c.pulse.ensures) at c.if-settles-too_few_words.false)

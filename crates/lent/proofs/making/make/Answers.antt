@@ -18,15 +18,15 @@ returns-then-sizes_misfit c = (rw (eq-eqb _ _ c.if-firmware-ne-FLASH_SIZE.false,
 
 pub write-requires : goal.write-requires
 write-requires c =
-            let a = c.args in
+    let a = c.args in
     (sizes-fit (length a.«record».now) (length a.array.now) a.charges (sym c.sizes_misfit.ensures ∙ c.if-sizes_misfit.false)).record_long
 
 pub copy-requires : goal.copy-requires
 copy-requires c =
-                    let a = c.args in
+    let a = c.args in
     c.if-firmware-ne-FLASH_SIZE.false ∙ sym (sizes-fit (length a.«record».now) (length a.array.now) a.charges (sym c.sizes_misfit.ensures ∙ c.if-sizes_misfit.false)).array_long
 
 pub returns : goal.returns
 unfolding new_refusal
 returns c =
-                        (rw (eq-eqb _ _ c.if-firmware-ne-FLASH_SIZE.false, sym c.sizes_misfit.ensures ∙ c.if-sizes_misfit.false), rw c.fresh.ensures at c.write.ensures, c.copy.ensures)
+    (rw (eq-eqb _ _ c.if-firmware-ne-FLASH_SIZE.false, sym c.sizes_misfit.ensures ∙ c.if-sizes_misfit.false), rw c.fresh.ensures at c.write.ensures, c.copy.ensures)

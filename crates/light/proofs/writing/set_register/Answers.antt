@@ -9,7 +9,7 @@ use Rattle.light.proofs.writing.set_register.Goals as goal
 pub returns-then-has : goal.returns-then-has
 unfolding register_set
 returns-then-has c =
-                    λ r. rw (c.in-61475.is, sym c.has-in-61475.ensures ∙ c.if-has.true, c.erase_value.ensures)
+    λ r. rw (c.in-61475.is, sym c.has-in-61475.ensures ∙ c.if-has.true, c.erase_value.ensures)
 
 pub returns-in-61472 : goal.returns-in-61472
 unfolding register_set
@@ -18,7 +18,7 @@ returns-in-61472 c = λ r. rw (c.in-61472.is, ← c.control_value.ensures) (c.se
 pub returns-in-61474 : goal.returns-in-61474
 unfolding register_set
 returns-in-61474 c =
-            λ r. rw (c.in-61474.is, c.has.ensures)
+    λ r. rw (c.in-61474.is, c.has.ensures)
 
 pub returns-else-has : goal.returns-else-has
 unfolding register_set

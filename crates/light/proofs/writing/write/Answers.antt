@@ -9,7 +9,7 @@ use Rattle.light.proofs.writing.write.Goals as goal
 pub returns-then-address-eq-FENR : goal.returns-then-address-eq-FENR
 unfolding write_register settled
 returns-then-address-eq-FENR c =
-            λ r. rw (eq-eqb _ 0xF02B c.if-address-eq-FENR.true, c.has.ensures)
+    λ r. rw (eq-eqb _ 0xF02B c.if-address-eq-FENR.true, c.has.ensures)
 
 pub returns-then-settings : goal.returns-then-settings
 unfolding write_register settled

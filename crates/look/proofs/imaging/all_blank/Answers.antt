@@ -18,7 +18,7 @@ overflow_add-a c = omega arith
 
 pub image_byte-byte-requires : goal.image_byte-byte-requires
 image_byte-byte-requires c =
-        let p = c.requires in
+    let p = c.requires in
     (p.0, p.1, p.2, p.3, c.ceilings-limits.ensures, omega arith)
 
 pub returns-then-byte : goal.returns-then-byte

@@ -10,5 +10,5 @@ use Rattle.look.proofs.imaging.image.Goals as goal
 pub returns : goal.returns
 unfolding image_at
 returns c =
-            let x = c.args in
+    let x = c.args in
     c.write_image.ensures ∙ sym (ap (λ (k : Cells). sets x.out.now 0 k.array) (c.view_at-view.ensures _ _))

@@ -13,5 +13,5 @@ returns-then-not-reaches c =
 
 pub returns : goal.returns
 returns c =
-        let e = sym c.reaches.ensures ∙ not-false _ c.if-not-reaches.false in
+    let e = sym c.reaches.ensures ∙ not-false _ c.if-not-reaches.false in
     c.sense_byte.ensures ∙ look-byte _ _ _ _ _ _ _ (omega arith) e c.byte_cells-cells.ensures c.exposed_cells-moved.ensures

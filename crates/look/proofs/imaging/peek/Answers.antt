@@ -10,5 +10,5 @@ use Rattle.look.proofs.imaging.peek.Goals as goal
 pub returns : goal.returns
 unfolding peek_at image_at
 returns c =
-        let x = c.args in
+    let x = c.args in
     c.image_byte.ensures ∙ sym (ap (λ (k : Cells). at k.array x.address) (c.view_at-view.ensures _ _))

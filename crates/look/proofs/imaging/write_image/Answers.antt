@@ -22,12 +22,12 @@ overflow_mul-start c = omega arith
 
 pub write_exposed-requires : goal.write_exposed-requires
 write_exposed-requires c =
-            let p = c.requires in
+    let p = c.requires in
     (p.0, p.1, p.2, p.3, c.ceilings-limits.ensures, omega arith, rw (c.loop-page.invariant.1, length-sets) p.4)
 
 pub write_stored-requires : goal.write_stored-requires
 write_stored-requires c =
-        (omega arith, rw (c.loop-page.invariant.1, length-sets) (omega arith))
+    (omega arith, rw (c.loop-page.invariant.1, length-sets) (omega arith))
 
 pub overflow_add-page : goal.overflow_add-page
 overflow_add-page c = omega arith

@@ -11,7 +11,7 @@ use Rattle.look.proofs.looking.cell_charge.Goals as goal
 pub returns : goal.returns
 unfolding charge_at
 returns c =
-            let f = c.requires.0 in
+    let f = c.requires.0 in
     let h = slots-from _ _ f.index_long f.charges_long f.slots in
     c.exposed_by.ensures
     ∙ rw c.Cell-at.ensures (sym (look-cell _ _ _ _ h _ c.requires.1))

@@ -12,24 +12,24 @@ returns-then-register-eq-FLMCR1 c =
 pub returns-then-register-eq-FLMCR2 : goal.returns-then-register-eq-FLMCR2
 unfolding bit_named
 returns-then-register-eq-FLMCR2 c =
-        rw (ne_eqb _ _ c.if-register-eq-FLMCR1.false, eq-eqb _ _ c.if-register-eq-FLMCR2.true) c.flag_bit.ensures
+    rw (ne_eqb _ _ c.if-register-eq-FLMCR1.false, eq-eqb _ _ c.if-register-eq-FLMCR2.true) c.flag_bit.ensures
 
 pub returns-then-register-eq-FLPWCR : goal.returns-then-register-eq-FLPWCR
 unfolding bit_named
 returns-then-register-eq-FLPWCR c =
-            rw (ne_eqb _ _ c.if-register-eq-FLMCR1.false, ne_eqb _ _ c.if-register-eq-FLMCR2.false, eq-eqb _ _ c.if-register-eq-FLPWCR.true) c.flag_bit-then-register-eq-FLPWCR.ensures
+    rw (ne_eqb _ _ c.if-register-eq-FLMCR1.false, ne_eqb _ _ c.if-register-eq-FLMCR2.false, eq-eqb _ _ c.if-register-eq-FLPWCR.true) c.flag_bit-then-register-eq-FLPWCR.ensures
 
 pub returns-then-register-eq-EBR1 : goal.returns-then-register-eq-EBR1
 unfolding bit_named
 returns-then-register-eq-EBR1 c =
-            rw (ne_eqb _ _ c.if-register-eq-FLMCR1.false, ne_eqb _ _ c.if-register-eq-FLMCR2.false, ne_eqb _ _ c.if-register-eq-FLPWCR.false, eq-eqb _ _ c.if-register-eq-EBR1.true) c.erase_bit.ensures
+    rw (ne_eqb _ _ c.if-register-eq-FLMCR1.false, ne_eqb _ _ c.if-register-eq-FLMCR2.false, ne_eqb _ _ c.if-register-eq-FLPWCR.false, eq-eqb _ _ c.if-register-eq-EBR1.true) c.erase_bit.ensures
 
 pub returns-then-register-eq-FENR : goal.returns-then-register-eq-FENR
 unfolding bit_named
 returns-then-register-eq-FENR c =
-                    rw (ne_eqb _ _ c.if-register-eq-FLMCR1.false, ne_eqb _ _ c.if-register-eq-FLMCR2.false, ne_eqb _ _ c.if-register-eq-FLPWCR.false, ne_eqb _ _ c.if-register-eq-EBR1.false, eq-eqb _ _ c.if-register-eq-FENR.true) c.flag_bit-then-register-eq-FENR.ensures
+    rw (ne_eqb _ _ c.if-register-eq-FLMCR1.false, ne_eqb _ _ c.if-register-eq-FLMCR2.false, ne_eqb _ _ c.if-register-eq-FLPWCR.false, ne_eqb _ _ c.if-register-eq-EBR1.false, eq-eqb _ _ c.if-register-eq-FENR.true) c.flag_bit-then-register-eq-FENR.ensures
 
 pub returns : goal.returns
 unfolding bit_named
 returns c =
-            rw (ne_eqb _ _ c.if-register-eq-FLMCR1.false, ne_eqb _ _ c.if-register-eq-FLMCR2.false, ne_eqb _ _ c.if-register-eq-FLPWCR.false, ne_eqb _ _ c.if-register-eq-EBR1.false, ne_eqb _ _ c.if-register-eq-FENR.false)
+    rw (ne_eqb _ _ c.if-register-eq-FLMCR1.false, ne_eqb _ _ c.if-register-eq-FLMCR2.false, ne_eqb _ _ c.if-register-eq-FLPWCR.false, ne_eqb _ _ c.if-register-eq-EBR1.false, ne_eqb _ _ c.if-register-eq-FENR.false)

@@ -11,7 +11,7 @@ use Rattle.parts.proofs.answering.settled_answer.Goals as goal
 
 pub overflow_add-a : goal.overflow_add-a
 overflow_add-a c =
-            let h : suc c.in-Read16.a < 49152 = ltb-true _ 49152 (rw c.in-Read16.is at c.requires) in omega arith
+    let h : suc c.in-Read16.a < 49152 = ltb-true _ 49152 (rw c.in-Read16.is at c.requires) in omega arith
 
 pub returns-in-WriteRegister : goal.returns-in-WriteRegister
 returns-in-WriteRegister c = rw c.in-WriteRegister.is (refl, lit< tt)
@@ -21,11 +21,11 @@ returns-in-Write8 c = rw c.in-Write8.is (refl, lit< tt)
 
 pub returns-in-Read8 : goal.returns-in-Read8
 returns-in-Read8 c =
-        rw c.in-Read8.is (c.wide.ensures.0 ∙ c.unserved.ensures, c.wide.ensures.1)
+    rw c.in-Read8.is (c.wide.ensures.0 ∙ c.unserved.ensures, c.wide.ensures.1)
 
 pub returns-in-Read16 : goal.returns-in-Read16
 returns-in-Read16 c =
-            let h = c.wide-low.ensures.1 in let k = c.wide-high.ensures.1 in rw c.in-Read16.is (rw (c.wide-low.ensures.0, c.unserved-in-Read16-2.ensures, c.wide-high.ensures.0, c.unserved-in-Read16.ensures, add-one), omega arith)
+    let h = c.wide-low.ensures.1 in let k = c.wide-high.ensures.1 in rw c.in-Read16.is (rw (c.wide-low.ensures.0, c.unserved-in-Read16-2.ensures, c.wide-high.ensures.0, c.unserved-in-Read16.ensures, add-one), omega arith)
 
 pub returns-in-Protect : goal.returns-in-Protect
 returns-in-Protect c = rw c.in-Protect.is (refl, lit< tt)

@@ -12,12 +12,12 @@ use Rattle.parts.proofs.answering.stored_answer.Goals as goal
 pub serve_byte-requires : goal.serve_byte-requires
 unfolding settles
 serve_byte-requires c =
-        let p = c.requires in let h : c.in-Read8.a < 49152 = ltb-true _ 49152 (rw c.in-Read8.is at p.1) in (not-false _ (rw c.in-Read8.is at p.0), omega (arith, p.2))
+    let p = c.requires in let h : c.in-Read8.a < 49152 = ltb-true _ 49152 (rw c.in-Read8.is at p.1) in (not-false _ (rw c.in-Read8.is at p.0), omega (arith, p.2))
 
 pub serve_word-requires : goal.serve_word-requires
 unfolding settles
 serve_word-requires c =
-        let p = c.requires in let h : suc c.in-Read16.a < 49152 = ltb-true _ 49152 (rw c.in-Read16.is at p.1) in (not-false _ (rw c.in-Read16.is at p.0), omega (arith, p.2))
+    let p = c.requires in let h : suc c.in-Read16.a < 49152 = ltb-true _ 49152 (rw c.in-Read16.is at p.1) in (not-false _ (rw c.in-Read16.is at p.0), omega (arith, p.2))
 
 pub returns-in-WriteRegister : goal.returns-in-WriteRegister
 returns-in-WriteRegister c = rw c.in-WriteRegister.is (refl, lit< tt)
@@ -27,11 +27,11 @@ returns-in-Write8 c = rw c.in-Write8.is (refl, lit< tt)
 
 pub returns-in-Read8 : goal.returns-in-Read8
 returns-in-Read8 c =
-        rw c.in-Read8.is (c.wide.ensures.0 ∙ c.serve_byte.ensures, c.wide.ensures.1)
+    rw c.in-Read8.is (c.wide.ensures.0 ∙ c.serve_byte.ensures, c.wide.ensures.1)
 
 pub returns-in-Read16 : goal.returns-in-Read16
 returns-in-Read16 c =
-        let k = c.shared_slice_known-1.given in let a = c.in-Read16.a in let e = c.serve_word.ensures in rw c.in-Read16.is (e, omega (arith, k a, k (suc a), e))
+    let k = c.shared_slice_known-1.given in let a = c.in-Read16.a in let e = c.serve_word.ensures in rw c.in-Read16.is (e, omega (arith, k a, k (suc a), e))
 
 pub returns-in-Protect : goal.returns-in-Protect
 returns-in-Protect c = rw c.in-Protect.is (refl, lit< tt)

@@ -16,7 +16,7 @@ ending-below Interrupted = lit< tt
 
 pub word-requires : goal.word-requires
 word-requires c =
-        let h = ending-below c.ending.result in (rw c.ending_number.ensures h, omega (arith, c.requires), omega (arith, c.requires))
+    let h = ending-below c.ending.result in (rw c.ending_number.ensures h, omega (arith, c.requires), omega (arith, c.requires))
 
 pub returns : goal.returns
 returns c = rw (c.word.ensures, c.ending_number.ensures, c.ending.ensures)

@@ -6,4 +6,4 @@ use Rattle.parts.proofs.ending.same_pulse.Goals as goal
 pub returns-in-Open-b-2 : goal.returns-in-Open-b-2
 unfolding same_pulse
 returns-in-Open-b-2 c =
-                rw (c.in-Open.is, c.in-Open-b-2.is, c.same_direction.ensures)
+    rw (c.in-Open.is, c.in-Open-b-2.is, c.same_direction.ensures)

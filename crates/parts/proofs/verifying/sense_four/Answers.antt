@@ -28,7 +28,7 @@ overflow_add-address c = omega arith
 
 pub byte_cells-cells-requires : goal.byte_cells-cells-requires
 byte_cells-cells-requires c =
-        let p = c.requires in (p.0, p.1, p.2, p.3, omega arith)
+    let p = c.requires in (p.0, p.1, p.2, p.3, omega arith)
 
 pub overflow_add-address-in-loop-k : goal.overflow_add-address-in-loop-k
 overflow_add-address-in-loop-k c = omega arith
@@ -38,7 +38,7 @@ slice_bounds-sense_byte-end c = sym (ap length c.byte_cells-cells.ensures)
 
 pub sense_byte-requires : goal.sense_byte-requires
 sense_byte-requires c =
-        (c.ceilings-limits.ensures, omega arith, ap length c.byte_cells-cells.ensures)
+    (c.ceilings-limits.ensures, omega arith, ap length c.byte_cells-cells.ensures)
 
 pub bounds-bytes-k : goal.bounds-bytes-k
 bounds-bytes-k c = omega arith
@@ -51,7 +51,7 @@ loop-k-smaller c = omega arith
 
 pub loop-k-preserved : goal.loop-k-preserved
 loop-k-preserved c =
-            let l = c.loop-k in (omega arith, partly-turn _ l.k _ _ _ l.invariant.1 (c.sense_byte.ensures ∙ tabled _ _ _ _ c.byte_cells-cells.ensures))
+    let l = c.loop-k in (omega arith, partly-turn _ l.k _ _ _ l.invariant.1 (c.sense_byte.ensures ∙ tabled _ _ _ _ c.byte_cells-cells.ensures))
 
 pub returns : goal.returns
 unfolding four_sensed

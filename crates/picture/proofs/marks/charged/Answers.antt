@@ -11,5 +11,5 @@ use Rattle.picture.proofs.marks.charged.Goals as goal
 pub returns : goal.returns
 unfolding charged_at charge_at
 returns c =
-        let x = c.args in
+    let x = c.args in
     c.holds_charge.ensures ∙ sym (ap (λ (k : Cells). holds_charge (cell_at k) 1024 (x.page * 1024)) (c.view_at-view.ensures _ _))

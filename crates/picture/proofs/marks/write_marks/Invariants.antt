@@ -10,7 +10,7 @@ use Rattle.picture.specs.Outputs.{written}
 use Rattle.picture.proofs.marks.write_marks.Given as goal
 
 abbrev pub invariant-loop-page : goal.invariant-loop-page
-invariant-loop-page l = (l.page ≤ 384) × (l.out ≡ written (mark_at l.time (record { l.flash = l.flash; l.array = l.array; l.charges = l.charges })) l.page l.initial.out)
+invariant-loop-page l = (l.page ≤ 384) × (l.out ≡ written (mark_at l.time (record { flash = l.flash; array = l.array; charges = l.charges })) l.page l.initial.out)
 
 abbrev pub decreases-loop-page : goal.decreases-loop-page
 decreases-loop-page l = 384 - l.page

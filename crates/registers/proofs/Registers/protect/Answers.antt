@@ -12,4 +12,4 @@ returns-in-Closed c = rw (sym c.pulse-pulse.ensures, c.in-Closed.is)
 pub returns-in-Open : goal.returns-in-Open
 unfolding protect
 returns-in-Open c =
-            rw (sym c.pulse-pulse.ensures, c.in-Open.is, c.tripped.ensures, c.settled.ensures)
+    rw (sym c.pulse-pulse.ensures, c.in-Open.is, c.tripped.ensures, c.settled.ensures)

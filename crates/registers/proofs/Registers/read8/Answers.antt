@@ -11,4 +11,4 @@ returns-then-normal c = rw (sym c.normal.ensures ∙ c.if-normal.true)
 pub returns : goal.returns
 unfolding read8
 returns c =
-                rw (sym c.normal.ensures ∙ c.if-normal.false, c.tripped.ensures, c.settled.ensures, c.pulse-pulse.ensures)
+    rw (sym c.normal.ensures ∙ c.if-normal.false, c.tripped.ensures, c.settled.ensures, c.pulse-pulse.ensures)

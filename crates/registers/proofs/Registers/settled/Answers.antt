@@ -8,7 +8,7 @@ use Rattle.registers.proofs.Registers.settled.Goals as goal
 pub returns-then-sense_due : goal.returns-then-sense_due
 unfolding settled
 returns-then-sense_due c =
-            rw (sym c.sense_due.ensures ∙ c.if-sense_due.true)
+    rw (sym c.sense_due.ensures ∙ c.if-sense_due.true)
 
 pub returns : goal.returns
 unfolding settled

@@ -23,4 +23,4 @@ get_bytes-requires c =
 pub returns : goal.returns
 unfolding flash_at
 returns c =
-            rw (c.get_bytes.ensures, c.state_length.ensures, c.time_at-since.ensures, c.registers_at-registers.ensures)
+    rw (c.get_bytes.ensures, c.state_length.ensures, c.time_at-since.ensures, c.registers_at-registers.ensures)

@@ -43,7 +43,7 @@ unfolding page_at
 get_halves-requires c =
     let l = c.loop-slot in
     let a = l.slot * 1024 in
-        omega (arith, mid_len a (a + 1024) l.charges (omega arith), c.page_at.ensures, c.requires.1)
+    omega (arith, mid_len a (a + 1024) l.charges (omega arith), c.page_at.ensures, c.requires.1)
 
 pub overflow_add-slot : goal.overflow_add-slot
 overflow_add-slot c = omega arith
@@ -53,7 +53,7 @@ loop-slot-smaller c = omega arith
 
 pub loop-slot-preserved : goal.loop-slot-preserved
 loop-slot-preserved c =
-            let l = c.loop-slot in
+    let l = c.loop-slot in
     let x = c.args in
     let e =
     load-turn l.slot x.bytes.now x.charges.now l.charges _ _ l.invariant.2 (omega arith)

@@ -17,7 +17,7 @@ time_at-ready-requires c = omega (arith, pending-room _ _ c.requires c.if-bytes-
 
 pub returns-then-bytes-at-eq1 : goal.returns-then-bytes-at-eq1
 returns-then-bytes-at-eq1 c =
-        (rw (eq-eqb _ _ c.if-bytes-at-eq1.true, c.get16-address.ensures, c.time_at-ready.ensures), state-room _ _ c.requires)
+    (rw (eq-eqb _ _ c.if-bytes-at-eq1.true, c.get16-address.ensures, c.time_at-ready.ensures), state-room _ _ c.requires)
 
 pub returns : goal.returns
 returns c = (rw (ne_eqb _ _ c.if-bytes-at-eq1.false), state-room _ _ c.requires)

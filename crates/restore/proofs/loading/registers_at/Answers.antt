@@ -10,20 +10,20 @@ use Rattle.restore.proofs.loading.registers_at.Goals as goal
 
 pub overflow_add-at-9 : goal.overflow_add-at-9
 overflow_add-at-9 c =
-            omega arith
+    omega arith
 
 pub overflow_add-at-10 : goal.overflow_add-at-10
 overflow_add-at-10 c =
-            omega arith
+    omega arith
 
 pub time_at-requires-6 : goal.time_at-requires-6
 time_at-requires-6 c =
-            omega arith
+    omega arith
 
 pub returns : goal.returns
 unfolding registers_at
 returns c =
-                let x = c.args in
+    let x = c.args in
     let xs = x.bytes.now in
     λ i. record {
       control = at xs x.at;

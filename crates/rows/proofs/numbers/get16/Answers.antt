@@ -8,4 +8,4 @@ use Rattle.rows.proofs.numbers.get16.Goals as goal
 
 pub returns : goal.returns
 returns c =
-        let x = c.args in rw (c.wide-2.ensures.0, c.wide.ensures.0) (sym (rw (word-one x.s.now x.at, word-one x.s.now (x.at + 1)) at (word_split 1 1 x.s.now x.at)))
+    let x = c.args in rw (c.wide-2.ensures.0, c.wide.ensures.0) (sym (rw (word-one x.s.now x.at, word-one x.s.now (x.at + 1)) at (word_split 1 1 x.s.now x.at)))

@@ -7,4 +7,4 @@ use Rattle.rows.proofs.numbers.get32.Goals as goal
 
 pub returns : goal.returns
 returns c =
-        let x = c.args in rw (c.get16-high.ensures, c.get16-low.ensures) (sym (word_split 2 2 x.s.now x.at))
+    let x = c.args in rw (c.get16-high.ensures, c.get16-low.ensures) (sym (word_split 2 2 x.s.now x.at))

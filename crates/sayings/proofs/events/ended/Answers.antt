@@ -5,4 +5,4 @@ use Rattle.sayings.proofs.events.ended.Goals as goal
 
 pub returns : goal.returns
 returns c =
-            rw (c.kind_in.ensures, c.address_in.ensures, c.last_address.ensures) at c.say_either.ensures
+    rw (c.kind_in.ensures, c.address_in.ensures, c.last_address.ensures) at c.say_either.ensures

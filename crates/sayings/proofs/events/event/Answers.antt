@@ -6,4 +6,4 @@ use Rattle.sayings.proofs.events.event.Goals as goal
 
 pub returns : goal.returns
 returns c =
-            puts-append _ _ _ _ _ _ _ _ (puts-append _ _ _ _ _ _ _ _ c.say-begun.ensures c.instant-timed.ensures) c.put_happened.ensures
+    puts-append _ _ _ _ _ _ _ _ (puts-append _ _ _ _ _ _ _ _ c.say-begun.ensures c.instant-timed.ensures) c.put_happened.ensures

@@ -7,8 +7,8 @@ use Rattle.sayings.proofs.events.put_happened.Goals as goal
 
 pub returns-then-kind_in-eq-BYTE : goal.returns-then-kind_in-eq-BYTE
 returns-then-kind_in-eq-BYTE c =
-                rw (eq-eqb _ _ (sym c.kind_in.ensures ∙ c.if-kind_in-eq-BYTE.true)) (rw (c.address_in.ensures, c.value_in.ensures) at c.say.ensures)
+    rw (eq-eqb _ _ (sym c.kind_in.ensures ∙ c.if-kind_in-eq-BYTE.true)) (rw (c.address_in.ensures, c.value_in.ensures) at c.say.ensures)
 
 pub returns : goal.returns
 returns c =
-        rw (ne_eqb _ _ (λ e. c.if-kind_in-eq-BYTE.false (c.kind_in.ensures ∙ e))) c.ended.ensures
+    rw (ne_eqb _ _ (λ e. c.if-kind_in-eq-BYTE.false (c.kind_in.ensures ∙ e))) c.ended.ensures

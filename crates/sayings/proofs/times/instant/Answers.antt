@@ -11,4 +11,4 @@ returns-then-fraction-eq0 c = rw (eq-eqb _ _ c.if-fraction-eq0.true, append-nil)
 
 pub returns : goal.returns
 returns c =
-            rw (ne_eqb _ _ c.if-fraction-eq0.false) (puts-append _ _ _ _ _ _ _ _ c.say-end.ensures c.put_fraction.ensures)
+    rw (ne_eqb _ _ c.if-fraction-eq0.false) (puts-append _ _ _ _ _ _ _ _ c.say-end.ensures c.put_fraction.ensures)

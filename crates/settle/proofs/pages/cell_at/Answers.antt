@@ -19,27 +19,27 @@ in-slot (suc s) array charges i n = let e : suc s - 1 ≡ s = omega arith in rw 
 pub returns-then-entry-eq0 : goal.returns-then-entry-eq0
 unfolding cell_at held
 returns-then-entry-eq0 c =
-        let e : c.wide-entry.result ≡ 0 = omega arith in
+    let e : c.wide-entry.result ≡ 0 = omega arith in
     c.first_charge.ensures ∙ rw (c.bit.ensures, ← c.wide-entry.ensures, e)
 
 pub overflow_mul-result : goal.overflow_mul-result
 overflow_mul-result c =
-        omega (arith, entry-le _ c.requires.0 c.requires.1 (c.args.i / 1024))
+    omega (arith, entry-le _ c.requires.0 c.requires.1 (c.args.i / 1024))
 
 pub overflow_add-result : goal.overflow_add-result
 overflow_add-result c =
-        omega (arith, entry-le _ c.requires.0 c.requires.1 (c.args.i / 1024))
+    omega (arith, entry-le _ c.requires.0 c.requires.1 (c.args.i / 1024))
 
 pub offset_bounds-charges-entry : goal.offset_bounds-charges-entry
 offset_bounds-charges-entry c =
-        omega (arith, entry-le _ c.requires.0 c.requires.1 (c.args.i / 1024))
+    omega (arith, entry-le _ c.requires.0 c.requires.1 (c.args.i / 1024))
 
 pub bounds-charges-entry : goal.bounds-charges-entry
 bounds-charges-entry c =
-        omega (arith, entry-le _ c.requires.0 c.requires.1 (c.args.i / 1024))
+    omega (arith, entry-le _ c.requires.0 c.requires.1 (c.args.i / 1024))
 
 pub returns : goal.returns
 unfolding cell_at
 returns c =
-        let x = c.args in
+    let x = c.args in
     rw (← c.wide-entry.ensures) (sym (in-slot c.wide-entry.result x.array.now x.charges.now x.i (omega arith)))

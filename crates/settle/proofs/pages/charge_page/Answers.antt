@@ -17,23 +17,23 @@ use Rattle.settle.proofs.pages.charge_page.Goals as goal
 
 pub open_slot-requires : goal.open_slot-requires
 open_slot-requires c =
-        (c.requires.3, omega (arith, opened-lt c.args.indices.now c.args.page (omega arith) (omega arith)), simp (length-take, length-drop) (omega arith))
+    (c.requires.3, omega (arith, opened-lt c.args.indices.now c.args.page (omega arith) (omega arith)), simp (length-take, length-drop) (omega arith))
 
 pub overflow_add-indices : goal.overflow_add-indices
 overflow_add-indices c =
-        omega (arith, opened-lt c.args.indices.now c.args.page (omega arith) (omega arith))
+    omega (arith, opened-lt c.args.indices.now c.args.page (omega arith) (omega arith))
 
 pub overflow_cast-indices : goal.overflow_cast-indices
 overflow_cast-indices c =
-        omega (arith, opened-lt c.args.indices.now c.args.page (omega arith) (omega arith))
+    omega (arith, opened-lt c.args.indices.now c.args.page (omega arith) (omega arith))
 
 pub charge_slot-requires : goal.charge_slot-requires
 charge_slot-requires c =
-        (search rules, omega (arith, opened-lt c.args.indices.now c.args.page (omega arith) (omega arith)))
+    (search rules, omega (arith, opened-lt c.args.indices.now c.args.page (omega arith) (omega arith)))
 
 pub returns-then-entry-eq0 : goal.returns-then-entry-eq0
 returns-then-entry-eq0 c =
-                    let x = c.args in
+    let x = c.args in
     let k : Cells = record { index = x.indices.now; array = x.array.now; charges = x.charges.now } in
     let from = x.page * 128 in
     let own : (i : ℕ) → i < 128 → at (take (from + 128 - from) (drop from x.array.now)) i ≡ at x.array.now (from + i) =
@@ -47,11 +47,11 @@ returns-then-entry-eq0 c =
 
 pub charge_slot-requires-2 : goal.charge_slot-requires-2
 charge_slot-requires-2 c =
-        (c.requires.3, omega (arith, entry-le _ c.requires.0 c.requires.1 c.args.page))
+    (c.requires.3, omega (arith, entry-le _ c.requires.0 c.requires.1 c.args.page))
 
 pub returns : goal.returns
 returns c =
-            let x = c.args in
+    let x = c.args in
     let k : Cells = record { index = x.indices.now; array = x.array.now; charges = x.charges.now } in
     let old : at x.indices.now x.page ≡ suc (c.wide-entry.result - 1) = omega arith in
     let charges = page-charged x.pulse x.latch.now (span x.exposure) k x.page (c.wide-entry.result - 1) old in (

@@ -50,7 +50,7 @@ loop-i-smaller-then-entry-ne0 c = omega arith
 
 pub loop-i-preserved-then-entry-ne0 : goal.loop-i-preserved-then-entry-ne0
 loop-i-preserved-then-entry-ne0 c =
-        let l = c.args.indices.now in
+    let l = c.args.indices.now in
     let i = c.loop-i.i in
     (omega arith, omega arith, omega (arith, ap opened (from l i (omega arith)), opened-suc (at l i) (drop (i + 1) l) (omega arith)))
 
@@ -59,7 +59,7 @@ loop-i-smaller c = omega arith
 
 pub loop-i-preserved : goal.loop-i-preserved
 loop-i-preserved c =
-        let l = c.args.indices.now in
+    let l = c.args.indices.now in
     let i = c.loop-i.i in
     (omega arith, omega arith, omega (arith, ap opened (from l i (omega arith)), opened-zero (at l i) (drop (i + 1) l) (omega arith)))
 

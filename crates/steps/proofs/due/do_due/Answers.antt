@@ -16,11 +16,11 @@ returns-in-Call c = λ events. absurd (cons≢nil (sym (ap calls_of c.in-Call.is
 
 pub returns-in-Look : goal.returns-in-Look
 returns-in-Look c = λ events.
-        let due = c.due-1.given in
+    let due = c.due-1.given in
     rw due.1
     (look-due c.args.manner c.args.number c.args.course _ events _ due.0.1.0 due.0.0 c.requires.1 (c.look.ensures events))
 
 pub returns-in-Wrong : goal.returns-in-Wrong
 returns-in-Wrong c = λ events.
-        rw (c.in-Wrong.is, c.after_left_out.ensures)
+    rw (c.in-Wrong.is, c.after_left_out.ensures)
     (wrong-due c.args.manner c.args.number c.args.course _ events _ _ c.requires.1)

@@ -14,5 +14,5 @@ take_line-requires c =
 
 pub returns : goal.returns
 returns c =
-        let fits = c.requires.0.line_fits in
+    let fits = c.requires.0.line_fits in
     rw c.to_run-2.ensures (closes-line (omega arith) (omega arith) c.take_line.ensures)

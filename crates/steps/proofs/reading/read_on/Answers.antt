@@ -5,7 +5,7 @@ use Rattle.steps.proofs.reading.read_on.Goals as goal
 
 pub take_line-requires : goal.take_line-requires
 take_line-requires c =
-        let pre = c.requires in
+    let pre = c.requires in
     reading c.feed-fed.ensures (pre.0.reads_on pre.1)
 
 pub returns-then-fed : goal.returns-then-fed
@@ -13,5 +13,5 @@ returns-then-fed c = line-ends c.feed-fed.ensures _ _ c.if-fed.true c.take_line.
 
 pub returns : goal.returns
 returns c =
-        let pre = c.requires in
+    let pre = c.requires in
     line-goes-on c.feed-fed.ensures _ _ c.if-fed.false (pre.0.reads_on pre.1)

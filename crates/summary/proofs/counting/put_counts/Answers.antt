@@ -8,4 +8,4 @@ use Rattle.summary.proofs.counting.put_counts.Goals as goal
 pub returns : goal.returns
 unfolding counts_text
 returns c =
-                puts-append _ _ _ _ _ _ _ _ (puts-append _ _ _ _ _ _ _ _ c.calls-called.ensures c.put_left_out-left.ensures) c.put_pulses.ensures
+    puts-append _ _ _ _ _ _ _ _ (puts-append _ _ _ _ _ _ _ _ c.calls-called.ensures c.put_left_out-left.ensures) c.put_pulses.ensures

@@ -10,4 +10,4 @@ returns-then-lines-eq0 c = rw (eq-eqb _ _ c.if-lines-eq0.true) (puts_none _ _)
 
 pub returns : goal.returns
 returns c =
-        rw (ne_eqb _ _ c.if-lines-eq0.false) c.say.ensures
+    rw (ne_eqb _ _ c.if-lines-eq0.false) c.say.ensures

@@ -10,13 +10,13 @@ use Rattle.summary.proofs.judging.legible_among.Goals as goal
 
 pub legible_pages-requires : goal.legible_pages-requires
 legible_pages-requires c =
-        let j = c.args.judged in
+    let j = c.args.judged in
     omega (arith, leb-true (j.first + j.pages) 384 (sym c.lies.ensures ∙ c.if-lies.true))
 
 pub returns-then-lies : goal.returns-then-lies
 unfolding legible_among
 returns-then-lies c =
-        rw (← c.lies.ensures, c.if-lies.true) c.legible_pages.ensures.0
+    rw (← c.lies.ensures, c.if-lies.true) c.legible_pages.ensures.0
 
 pub returns : goal.returns
 unfolding legible_among

@@ -13,4 +13,4 @@ put_addresses-requires c = some-inside _ _ _ c.lies.ensures c.if-pages-lies.fals
 
 pub returns : goal.returns
 returns c =
-            rw (← c.lies.ensures, c.if-pages-lies.false) c.put_addresses.ensures
+    rw (← c.lies.ensures, c.if-pages-lies.false) c.put_addresses.ensures

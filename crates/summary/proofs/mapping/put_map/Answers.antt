@@ -8,7 +8,7 @@ use Rattle.summary.proofs.mapping.put_map.Goals as goal
 pub returns-then-map : goal.returns-then-map
 unfolding map_text
 returns-then-map c =
-            rw c.if-map.true (puts-append _ _ _ _ _ _ _ _ c.say-head.ensures c.put_rows.ensures)
+    rw c.if-map.true (puts-append _ _ _ _ _ _ _ _ c.say-head.ensures c.put_rows.ensures)
 
 pub returns : goal.returns
 unfolding map_text

@@ -8,6 +8,6 @@ use Rattle.summary.proofs.mapping.put_row.Goals as goal
 
 pub returns : goal.returns
 returns c =
-        let r = c.args.row in
+    let r = c.args.row in
     let e : r * 32 + 32 - r * 32 ≡ 32 = omega arith in
     rw e at c.fill.ensures

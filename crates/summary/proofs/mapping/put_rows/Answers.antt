@@ -20,7 +20,7 @@ loop-row-smaller c = omega arith
 
 pub loop-row-preserved : goal.loop-row-preserved
 loop-row-preserved c =
-        lined-more _ _ _ _ _ _ _ _ _ c.loop-row.invariant (omega arith) c.put_row-end.ensures
+    lined-more _ _ _ _ _ _ _ _ _ c.loop-row.invariant (omega arith) c.put_row-end.ensures
 
 pub shape_of-out : goal.shape_of-out
 shape_of-out c = lined-length _ _ _ _ _ _ _ c.loop-row.invariant

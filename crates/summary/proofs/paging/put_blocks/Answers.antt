@@ -20,7 +20,7 @@ loop-block-smaller c = omega arith
 
 pub loop-block-preserved : goal.loop-block-preserved
 loop-block-preserved c =
-        lined-more _ _ _ _ _ _ _ _ _ c.loop-block.invariant (omega arith) c.put_pages_in-end.ensures
+    lined-more _ _ _ _ _ _ _ _ _ c.loop-block.invariant (omega arith) c.put_pages_in-end.ensures
 
 pub shape_of-out : goal.shape_of-out
 shape_of-out c = lined-length _ _ _ _ _ _ _ c.loop-block.invariant

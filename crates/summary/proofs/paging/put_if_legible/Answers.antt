@@ -6,7 +6,7 @@ use Rattle.summary.proofs.paging.put_if_legible.Goals as goal
 
 pub returns-then-legible : goal.returns-then-legible
 returns-then-legible c =
-            rw (← c.legible.ensures, c.if-legible.true) c.legible_page.ensures
+    rw (← c.legible.ensures, c.if-legible.true) c.legible_page.ensures
 
 pub returns : goal.returns
 returns c = rw (← c.legible.ensures, c.if-legible.false) (puts_none _ _)

@@ -20,7 +20,7 @@ loop-page-smaller c = omega arith
 
 pub loop-page-preserved : goal.loop-page-preserved
 loop-page-preserved c =
-        lined-more _ _ _ _ _ _ _ _ _ c.loop-page.invariant (omega arith) c.put_if_legible-end.ensures
+    lined-more _ _ _ _ _ _ _ _ _ c.loop-page.invariant (omega arith) c.put_if_legible-end.ensures
 
 pub shape_of-out : goal.shape_of-out
 shape_of-out c = lined-length _ _ _ _ _ _ _ c.loop-page.invariant

@@ -8,4 +8,4 @@ use Rattle.summary.proofs.paging.put_pages.Goals as goal
 pub returns : goal.returns
 unfolding pages_text
 returns c =
-        puts-append _ _ _ _ _ _ _ _ c.put_blocks-told.ensures c.put_legible.ensures
+    puts-append _ _ _ _ _ _ _ _ c.put_blocks-told.ensures c.put_legible.ensures

@@ -15,7 +15,7 @@ loop-i-init c = (search rules, search rules, puts_none _ _)
 
 pub loop-i-preserved : goal.loop-i-preserved
 loop-i-preserved c =
-            let text = c.args.text.now in
+    let text = c.args.text.now in
     let inside : c.loop-i.i < length text = search rules in (
       search rules,
       c.put_byte-end.auto.0 ∙ c.loop-i.invariant.1,

@@ -9,5 +9,5 @@ returns-then-seen-ne0 c = looks-refused _ _ _ _ c.see_pages-seen.ensures.number_
 
 pub returns : goal.returns
 returns c =
-            let s = c.see_pages-seen.ensures in
+    let s = c.see_pages-seen.ensures in
     looks-seen _ _ _ _ s.number_is c.if-seen-ne0.false (rw (s.value_is (sym s.number_is ∙ c.if-seen-ne0.false))) c.looked_whole.ensures

@@ -8,5 +8,5 @@ returns-then-byte-ne0 c = looks-refused _ _ _ _ c.see_byte-byte.ensures.number_i
 
 pub returns : goal.returns
 returns c =
-                let s = c.see_byte-byte.ensures in
+    let s = c.see_byte-byte.ensures in
     looks-seen _ _ _ _ s.number_is c.if-byte-ne0.false (byte-seen _ _ _ _ s c.see_blank-page.ensures c.if-byte-ne0.false) c.looked_byte.ensures

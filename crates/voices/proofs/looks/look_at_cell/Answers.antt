@@ -8,5 +8,5 @@ returns-then-cell-ne0 c = looks-refused _ _ _ _ c.see_charge-cell.ensures.number
 
 pub returns : goal.returns
 returns c =
-            let s = c.see_charge-cell.ensures in
+    let s = c.see_charge-cell.ensures in
     looks-seen _ _ _ _ s.number_is c.if-cell-ne0.false (cell-seen _ _ _ _ _ s c.if-cell-ne0.false) c.looked_cell.ensures

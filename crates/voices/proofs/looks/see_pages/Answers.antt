@@ -11,6 +11,6 @@ returns-then-number-ne0 c = shown-refused (c.see_image-number.ensures.0 ∙ imag
 
 pub returns : goal.returns
 returns c =
-        let s = c.see_image-number.ensures in
+    let s = c.see_image-number.ensures in
     let e = s.0 ∙ image-refusal _ _ _ (search rules) in
     shown e c.if-number-ne0.false (c.legible_pages-legible.ensures.0 ∙ rw (s.1 ∙ image-seen _ _ _ (search rules) _ e c.if-number-ne0.false))

@@ -18,18 +18,18 @@ loop-from-init c = (rw (zero-add, take-length), omega arith, omega arith)
 
 pub returns-then-spells : goal.returns-then-spells
 returns-then-spells c =
-        let x = c.args in
+    let x = c.args in
     let f = c.find-end in
     omega (arith, place_here x.names.now (slice x.from x.to x.line.now) c.loop-from.i f.result f.ensures.0 f.ensures.1 _ c.spells.ensures c.if-spells.true)
 
 pub returns-then-end-names : goal.returns-then-end-names
 returns-then-end-names c =
-        let x = c.args in
+    let x = c.args in
     let f = c.find-end in
     omega (arith, place-last x.names.now (slice x.from x.to x.line.now) c.loop-from.i f.result f.ensures.0 f.ensures.1 _ c.spells.ensures c.if-spells.false c.if-end-names.true)
 
 pub loop-from-preserved : goal.loop-from-preserved
 loop-from-preserved c =
-        let x = c.args in
+    let x = c.args in
     let f = c.find-end in
     (omega (arith, place-more x.names.now (slice x.from x.to x.line.now) c.loop-from.i f.result f.ensures.0 f.ensures.1 _ c.spells.ensures c.if-spells.false (omega arith)), omega arith, omega arith)

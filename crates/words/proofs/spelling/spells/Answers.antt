@@ -32,7 +32,7 @@ bounds-name-i c = omega arith
 
 pub returns-then-capital-name : goal.returns-then-capital-name
 returns-then-capital-name c =
-        let x = c.args in
+    let x = c.args in
     let l = c.loop-i in
     sym (spells-other x.name.now x.line.now l.i (x.from + l.i) x.to (omega arith) (omega arith) (omega arith) (λ e. c.if-capital-name.true (c.capital.ensures ∙ e)))
     ∙ l.invariant.0
@@ -45,7 +45,7 @@ loop-i-smaller c = omega arith
 
 pub loop-i-preserved : goal.loop-i-preserved
 loop-i-preserved c =
-        let x = c.args in
+    let x = c.args in
     let l = c.loop-i in (
       rw (← add_assoc) (spells-same x.name.now x.line.now l.i (x.from + l.i) x.to (omega arith) (omega arith) (omega arith) (sym c.capital.ensures ∙ c.if-capital-name.false))
           ∙ l.invariant.0,
