@@ -17,7 +17,7 @@ accepts-requires c =
 
 pub returns-then-not-accepts : goal.returns-then-not-accepts
 returns-then-not-accepts c =
-    told-3 _ _ _ _ (sym c.sizes_misfit.ensures ∙ c.if-sizes_misfit.false) (sym c.accepts.ensures ∙ not-true _ c.if-not-accepts.true)
+    told-3 _ _ _ _ (sym c.sizes_misfit.ensures ∙ c.if-sizes_misfit.false) (sym c.accepts.ensures ∙ c.if-not-accepts.true)
 
 pub read-flash-requires : goal.read-flash-requires
 read-flash-requires c =
@@ -25,11 +25,11 @@ read-flash-requires c =
 
 pub returns-then-number-ne0 : goal.returns-then-number-ne0
 returns-then-number-ne0 c =
-    told-later _ _ _ _ (sym c.sizes_misfit.ensures ∙ c.if-sizes_misfit.false) (sym c.accepts.ensures ∙ not-false _ c.if-not-accepts.false) _ (rw c.read-flash.ensures at c.call_refusal-number.ensures) c.if-number-ne0.true
+    told-later _ _ _ _ (sym c.sizes_misfit.ensures ∙ c.if-sizes_misfit.false) (sym c.accepts.ensures ∙ c.if-not-accepts.false) _ (rw c.read-flash.ensures at c.call_refusal-number.ensures) c.if-number-ne0.true
 
 pub perform-done-requires : goal.perform-done-requires
 perform-done-requires c =
-    let f = fitted _ (sizes-fit _ _ _ (sym c.sizes_misfit.ensures ∙ c.if-sizes_misfit.false)) (sym c.accepts.ensures ∙ not-false _ c.if-not-accepts.false) in let p = passes _ _ _ _ (sym c.call_refusal-number.ensures ∙ c.if-number-ne0.false) in (rw c.read-flash.ensures f, rw c.call_of.ensures p.placed_is, p.in_time, rw c.call_of.ensures p.enough)
+    let f = fitted _ (sizes-fit _ _ _ (sym c.sizes_misfit.ensures ∙ c.if-sizes_misfit.false)) (sym c.accepts.ensures ∙ c.if-not-accepts.false) in let p = passes _ _ _ _ (sym c.call_refusal-number.ensures ∙ c.if-number-ne0.false) in (rw c.read-flash.ensures f, rw c.call_of.ensures p.placed_is, p.in_time, rw c.call_of.ensures p.enough)
 
 pub write-requires : goal.write-requires
 write-requires c =
@@ -37,4 +37,4 @@ write-requires c =
 
 pub returns : goal.returns
 returns c =
-    told-done _ _ _ _ (sym c.sizes_misfit.ensures ∙ c.if-sizes_misfit.false) (sym c.accepts.ensures ∙ not-false _ c.if-not-accepts.false) (rw c.read-flash.ensures at (sym c.call_refusal-number.ensures ∙ c.if-number-ne0.false)) (rw (c.read-flash.ensures, c.call_of.ensures) at c.perform-done.ensures) c.write.ensures
+    told-done _ _ _ _ (sym c.sizes_misfit.ensures ∙ c.if-sizes_misfit.false) (sym c.accepts.ensures ∙ c.if-not-accepts.false) (rw c.read-flash.ensures at (sym c.call_refusal-number.ensures ∙ c.if-number-ne0.false)) (rw (c.read-flash.ensures, c.call_of.ensures) at c.perform-done.ensures) c.write.ensures

@@ -66,7 +66,7 @@ loop-k-preserved c =
       omega arith,
       simp length-set l.invariant.1,
       λ xs e.
-          rw n (partly-turn _ (8 * i + l.k) xs _ _ (l.invariant.2 xs e)
+          rw n (partly-turn (ruled c.args.direction c.args.latch.now c.amount-by.result) (8 * i + l.k) xs l.cells _ (l.invariant.2 xs e)
           (c.moved.ensures ∙ rw (c.bit.ensures, cell-bit _ i l.k (omega arith)))),
     )
 

@@ -50,7 +50,7 @@ loop-k-preserved c =
       omega arith,
       simp length-set l.invariant.1,
       λ xs e.
-          rw n (partly-turn _ (8 * i + l.k) xs _ _ (l.invariant.2 xs e)
+          rw n (partly-turn (first c.args.bytes.now) (8 * i + l.k) xs l.cells _ (l.invariant.2 xs e)
           (c.first_charge.ensures ∙ rw (c.bit.ensures, cell-bit _ i l.k (omega arith)))),
     )
 

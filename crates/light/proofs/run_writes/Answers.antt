@@ -21,7 +21,7 @@ returns-then-not-is_light c =
     rw c.lit.ensures c.loop-i.invariant
 
 pub write-settings-requires : goal.write-settings-requires
-write-settings-requires c = leb-false (2 ^ 64 - 1) _ (light-says _ _ _ _ _ (sym c.is_light.ensures ∙ not-false _ c.if-not-is_light.false)).not_last
+write-settings-requires c = leb-false (2 ^ 64 - 1) _ (light-says _ _ _ _ _ (sym c.is_light.ensures ∙ c.if-not-is_light.false)).not_last
 
 pub overflow_add-i : goal.overflow_add-i
 overflow_add-i c =
@@ -29,7 +29,7 @@ overflow_add-i c =
 
 pub loop-i-preserved : goal.loop-i-preserved
 loop-i-preserved c =
-    onward-more c.loop-i.invariant (onward-light _ _ _ c.args.flash _ _ _ _ c.loop-i-test.true (λ n. (c.shared_slice_known-1.given n).fits) (rw c.may_pulse-may.ensures at (sym c.is_light.ensures ∙ not-false _ c.if-not-is_light.false)) c.write-settings.ensures c.since_after-since.ensures)
+    onward-more c.loop-i.invariant (onward-light _ _ _ c.args.flash _ _ _ _ c.loop-i-test.true (λ n. (c.shared_slice_known-1.given n).fits) (rw c.may_pulse-may.ensures at (sym c.is_light.ensures ∙ c.if-not-is_light.false)) c.write-settings.ensures c.since_after-since.ensures)
 
 pub returns : goal.returns
 returns c = rw c.lit-2.ensures c.loop-i.invariant

@@ -24,7 +24,7 @@ accepts-requires c =
 
 pub returns-then-not-accepts : goal.returns-then-not-accepts
 returns-then-not-accepts c =
-    let p = told-3 _ _ _ _ (sym c.sizes_misfit.ensures ∙ c.if-sizes_misfit.false) (sym c.accepts.ensures ∙ not-true _ c.if-not-accepts.true) in rw (sym c.end_in-end.ensures) (refused-first _ _ _ _ _ c.if-end-from.false 2 p.0 p.1)
+    let p = told-3 _ _ _ _ (sym c.sizes_misfit.ensures ∙ c.if-sizes_misfit.false) (sym c.accepts.ensures ∙ c.if-not-accepts.true) in rw (sym c.end_in-end.ensures) (refused-first _ _ _ _ _ c.if-end-from.false 2 p.0 p.1)
 
 pub read-flash-requires : goal.read-flash-requires
 read-flash-requires c =
@@ -32,7 +32,7 @@ read-flash-requires c =
 
 pub run-ran-requires : goal.run-ran-requires
 run-ran-requires c =
-    (rw c.read-flash.ensures (ready-start _ (sym c.sizes_misfit.ensures ∙ c.if-sizes_misfit.false) (sym c.accepts.ensures ∙ not-false _ c.if-not-accepts.false) (λ n. (c.slice_known-1.given n).fits)), rw c.end_in-end.ensures (end-inside _ _))
+    (rw c.read-flash.ensures (ready-start _ (sym c.sizes_misfit.ensures ∙ c.if-sizes_misfit.false) (sym c.accepts.ensures ∙ c.if-not-accepts.false) (λ n. (c.slice_known-1.given n).fits)), rw c.end_in-end.ensures (end-inside _ _))
 
 pub write-requires : goal.write-requires
 write-requires c =
@@ -40,4 +40,4 @@ write-requires c =
 
 pub returns : goal.returns
 returns c =
-    rw (sym c.end_in-end.ensures) (run-done _ _ _ _ _ _ _ c.read-flash.ensures (memory_start _ (sym c.sizes_misfit.ensures ∙ c.if-sizes_misfit.false) (sym c.accepts.ensures ∙ not-false _ c.if-not-accepts.false) (λ n. (c.slice_known-1.given n).fits)) c.run-ran.ensures c.write.ensures)
+    rw (sym c.end_in-end.ensures) (run-done _ _ _ _ _ _ _ c.read-flash.ensures (memory_start _ (sym c.sizes_misfit.ensures ∙ c.if-sizes_misfit.false) (sym c.accepts.ensures ∙ c.if-not-accepts.false) (λ n. (c.slice_known-1.given n).fits)) c.run-ran.ensures c.write.ensures)

@@ -20,17 +20,17 @@ accepts-requires c =
 pub returns-then-not-accepts : goal.returns-then-not-accepts
 unfolding sized_refusal
 returns-then-not-accepts c =
-    rw (sym c.sizes_misfit.ensures ∙ c.if-sizes_misfit.false, sym c.accepts.ensures ∙ not-true _ c.if-not-accepts.true)
+    rw (sym c.sizes_misfit.ensures ∙ c.if-sizes_misfit.false, sym c.accepts.ensures ∙ c.if-not-accepts.true)
 
 pub returns-then-misplaced : goal.returns-then-misplaced
 unfolding sized_refusal
 returns-then-misplaced c =
-    rw (sym c.sizes_misfit.ensures ∙ c.if-sizes_misfit.false, sym c.accepts.ensures ∙ not-false _ c.if-not-accepts.false, c.if-misplaced.true)
+    rw (sym c.sizes_misfit.ensures ∙ c.if-sizes_misfit.false, sym c.accepts.ensures ∙ c.if-not-accepts.false, c.if-misplaced.true)
 
 pub returns-then-last_second : goal.returns-then-last_second
 unfolding sized_refusal
 returns-then-last_second c =
-    rw (sym c.sizes_misfit.ensures ∙ c.if-sizes_misfit.false, sym c.accepts.ensures ∙ not-false _ c.if-not-accepts.false, c.if-misplaced.false, sym c.last_second.ensures ∙ c.if-last_second.true)
+    rw (sym c.sizes_misfit.ensures ∙ c.if-sizes_misfit.false, sym c.accepts.ensures ∙ c.if-not-accepts.false, c.if-misplaced.false, sym c.last_second.ensures ∙ c.if-last_second.true)
 
 pub read-flash-requires : goal.read-flash-requires
 read-flash-requires c =
@@ -40,9 +40,9 @@ read-flash-requires c =
 pub returns-then-earlier : goal.returns-then-earlier
 unfolding sized_refusal
 returns-then-earlier c =
-    rw (sym c.sizes_misfit.ensures ∙ c.if-sizes_misfit.false, sym c.accepts.ensures ∙ not-false _ c.if-not-accepts.false, c.if-misplaced.false, sym c.last_second.ensures ∙ c.if-last_second.false, rw c.read-flash.ensures at (sym c.earlier.ensures ∙ c.if-earlier.true))
+    rw (sym c.sizes_misfit.ensures ∙ c.if-sizes_misfit.false, sym c.accepts.ensures ∙ c.if-not-accepts.false, c.if-misplaced.false, sym c.last_second.ensures ∙ c.if-last_second.false, rw c.read-flash.ensures at (sym c.earlier.ensures ∙ c.if-earlier.true))
 
 pub returns : goal.returns
 unfolding sized_refusal
 returns c =
-    rw (sym c.sizes_misfit.ensures ∙ c.if-sizes_misfit.false, sym c.accepts.ensures ∙ not-false _ c.if-not-accepts.false, c.if-misplaced.false, sym c.last_second.ensures ∙ c.if-last_second.false, rw c.read-flash.ensures at (sym c.earlier.ensures ∙ c.if-earlier.false))
+    rw (sym c.sizes_misfit.ensures ∙ c.if-sizes_misfit.false, sym c.accepts.ensures ∙ c.if-not-accepts.false, c.if-misplaced.false, sym c.last_second.ensures ∙ c.if-last_second.false, rw c.read-flash.ensures at (sym c.earlier.ensures ∙ c.if-earlier.false))

@@ -12,8 +12,8 @@ returns-then-record-ne-RECORD_LEN c = (rw (ne_eqb _ _ c.if-record-ne-RECORD_LEN.
 
 pub returns-then-not-accepts : goal.returns-then-not-accepts
 unfolding register_refusal
-returns-then-not-accepts c = (rw (eq-eqb _ _ c.if-record-ne-RECORD_LEN.false, sym c.accepts.ensures ∙ not-true _ c.if-not-accepts.true), λ e. absurd (omega (arith, e)))
+returns-then-not-accepts c = (rw (eq-eqb _ _ c.if-record-ne-RECORD_LEN.false, sym c.accepts.ensures ∙ c.if-not-accepts.true), λ e. absurd (omega (arith, e)))
 
 pub returns : goal.returns
 unfolding register_refusal
-returns c = (rw (eq-eqb _ _ c.if-record-ne-RECORD_LEN.false, sym c.accepts.ensures ∙ not-false _ c.if-not-accepts.false), λ _. c.if-record-ne-RECORD_LEN.false)
+returns c = (rw (eq-eqb _ _ c.if-record-ne-RECORD_LEN.false, sym c.accepts.ensures ∙ c.if-not-accepts.false), λ _. c.if-record-ne-RECORD_LEN.false)

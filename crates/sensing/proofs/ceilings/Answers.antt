@@ -40,7 +40,7 @@ pub loop-i-smaller : goal.loop-i-smaller
 loop-i-smaller c = omega arith
 
 pub loop-i-preserved : goal.loop-i-preserved
-loop-i-preserved c = let l = c.loop-i in (omega arith, partly-turn _ l.i _ _ _ l.invariant.1 refl)
+loop-i-preserved c = let l = c.loop-i in (omega arith, partly-turn (by-class-there c.classes-table.result c.row-by_class.result) l.i (replicate 256 0) l.all _ l.invariant.1 refl)
 
 pub returns : goal.returns
 unfolding ceiling_table

@@ -29,10 +29,6 @@ offset_bounds-cells-from c = omega arith
 pub slice_bounds-sense_byte-count : goal.slice_bounds-sense_byte-count
 slice_bounds-sense_byte-count c = omega arith
 
--- LOST: slice-bounds-sense-byte-start = omega arith
-
--- LOST: slice-bounds-sense-byte-end = omega arith
-
 pub sense_byte-requires : goal.sense_byte-requires
 sense_byte-requires c = (c.requires.0, omega arith, simp (length-take, length-drop) (omega arith))
 
@@ -51,7 +47,7 @@ loop-i-preserved c =
     let l = c.loop-i in (
       omega arith,
       simp length-set l.invariant.1,
-      partly-turn _ l.i _ _ _ l.invariant.2 (c.sense_byte.ensures ∙ sensed_byte-same _ _ _ _
+      partly-turn (λ b y. sensed_byte x.m (x.address + b) (λ k. at x.cells.now (8 * b + k))) l.i x.out.now l.out _ l.invariant.2 (c.sense_byte.ensures ∙ sensed_byte-same _ _ _ _
           (λ k h. get_or-take (8 * l.i + 8 - 8 * l.i) _ k 0 (omega arith) ∙ get_or-drop (8 * l.i) x.cells.now k 0)),
     )
 

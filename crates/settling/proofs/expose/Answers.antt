@@ -7,13 +7,14 @@ use native.Mathlib.Omega.{arith}
 use borrow.Author.Tests.{eqb-true, eqb-false}
 use lib.ListN.{length}
 use Rattle.time.specs.Raw.{span}
-use Rattle.settle.specs.Pages.{Cells}
+use Rattle.settle.specs.Pages.{Cells, opened}
 use Rattle.settle.specs.Settling.{charged}
 use Rattle.settle.proofs.Slots.{SlotsOf, slots-from, slots-sound, opened-le}
 use Rattle.settle.proofs.Page.{slot_lt, page-slots}
 use Rattle.settle.proofs.Stored.{stored-length, stored-events, stored-le}
-use Rattle.settle.proofs.Turns.{cells, Turned, left-none, turned_none, turned-all, turned-slots, turned-moves, turned-stays, turned_more}
+use Rattle.settle.proofs.Turns.{cells, Turned, turn, left-none, turned_none, turned-all, turned-slots, turned-moves, turned-stays, turned_more}
 use Rattle.settling.proofs.expose.Goals as goal
+use Rattle.settling.proofs.expose.Goals.{then-slot-next, else-slot-next}
 
 pub returns-then-is_zero : goal.returns-then-is_zero
 returns-then-is_zero c =
@@ -85,10 +86,10 @@ loop-i-preserved c =
     let r = c.resense_page-count.ensures in
     let slot = c.charge_page-slot.result in
     let inside : l.i < x.pulse.pages = omega (arith, c.loop-i-test.true) in
-    let next = ⊎_elim
-    (λ w. w.1 ∙ turned-moves t inside c.requires.4 slot e.2 (omega arith))
-    (λ w. w.1 ∙ turned-stays t inside c.requires.4 slot e.2 (omega arith))
-    c.if-slot-next.branch in
+    let next : c.if-slot-next.next ≡ opened (turn x.pulse x.latch.now (span x.exposure) l.i l.indices l.array l.charges).index = elim c.if-slot-next.branch [
+      | then-slot-next w ↦ w.next-is ∙ turned-moves t inside c.requires.4 slot e.2 (omega arith)
+      | else-slot-next w ↦ w.next-is ∙ turned-stays t inside c.requires.4 slot e.2 (omega arith)
+    ] in
     (omega arith, turned_more t inside c.requires.4 slot e.2 c.requires.2 e.0 e.1 next r.0 r.1 r.2)
 
 pub shape_of-indices : goal.shape_of-indices

@@ -9,6 +9,7 @@ use lib.ListN.{length}
 use Rattle.cell.specs.Cell.{at}
 use Rattle.settle.proofs.Stored.{Stored, stored-none, stored-length, stored-events, stored-le, stored_same, stored-changed}
 use Rattle.settling.proofs.store_page.Goals as goal
+use Rattle.settling.proofs.store_page.Goals.{then-old-value, else-old-value}
 
 pub loop-i-init : goal.loop-i-init
 loop-i-init c =
@@ -61,10 +62,10 @@ loop-i-preserved c =
     let next : x.address + (l.i + 1) ≡ suc hi = omega arith in
     let v : ℕ → ℕ = λ a. at x.bytes.now (a - x.address) in
     let t : Stored x.array.now x.events.now x.count x.address v (suc hi) c.if-old-value.array c.if-old-value.events c.if-old-value.n =
-    ⊎_elim
-    (λ w. rw (w.2, w.3, w.4) (stored-changed l.invariant.4 (omega arith) in_array _ _ value (omega arith) w.1.ensures))
-    (λ w. rw (w.1, w.2, w.3) (stored_same l.invariant.4 (omega arith) in_array _ value (omega arith)))
-    c.if-old-value.branch in
+    elim c.if-old-value.branch [
+      | then-old-value w ↦ rw (w.array-is, w.events-is, w.n-is) (stored-changed l.invariant.4 (omega arith) in_array _ _ value (omega arith) w.byte_word.ensures)
+      | else-old-value w ↦ rw (w.array-is, w.events-is, w.n-is) (stored_same l.invariant.4 (omega arith) in_array _ value (omega arith))
+    ] in
     (omega arith, stored-length t ∙ c.requires.0, stored-events t, omega (arith, stored-le t), rw next t)
 
 pub shape_of-array : goal.shape_of-array

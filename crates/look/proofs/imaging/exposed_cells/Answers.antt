@@ -6,6 +6,7 @@ use native.Mathlib.Omega.{arith}
 use Rattle.time.specs.Raw.{span}
 use Rattle.cell.proofs.Partly.{partly, partly-turn, partly-all}
 use Rattle.flash.specs.Looking.{exposed_by}
+use Rattle.look.proofs.imaging.exposed_cells.Invariants.{moved-there}
 use Rattle.look.proofs.imaging.exposed_cells.Goals as goal
 
 pub loop-k-init : goal.loop-k-init
@@ -40,10 +41,12 @@ loop-k-smaller c = omega arith
 
 pub loop-k-preserved : goal.loop-k-preserved
 loop-k-preserved c =
+    let x = c.args in
     let l = c.loop-k in
-    (omega arith, partly-turn _ l.k _ _ _ l.invariant.1 c.exposed_by.ensures)
+    (omega arith, partly-turn (moved-there x.pulse x.latch.now x.exposure x.address) l.k x.cells l.all _ l.invariant.1 c.exposed_by.ensures)
 
 pub returns : goal.returns
 returns c =
+    let x = c.args in
     let l = c.loop-k in
-    l.invariant.1 ∙ partly-all _ _ l.k (omega arith)
+    l.invariant.1 ∙ partly-all (moved-there x.pulse x.latch.now x.exposure x.address) x.cells l.k (omega arith)

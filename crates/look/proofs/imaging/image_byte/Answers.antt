@@ -9,9 +9,9 @@ use Rattle.look.proofs.imaging.image_byte.Goals as goal
 
 pub returns-then-not-reaches : goal.returns-then-not-reaches
 returns-then-not-reaches c =
-    sym (look-kept _ _ _ _ _ (sym c.reaches.ensures ∙ not-true _ c.if-not-reaches.true))
+    sym (look-kept _ _ _ _ _ (sym c.reaches.ensures ∙ c.if-not-reaches.true))
 
 pub returns : goal.returns
 returns c =
-    let e = sym c.reaches.ensures ∙ not-false _ c.if-not-reaches.false in
+    let e = sym c.reaches.ensures ∙ c.if-not-reaches.false in
     c.sense_byte.ensures ∙ look-byte _ _ _ _ _ _ _ (omega arith) e c.byte_cells-cells.ensures c.exposed_cells-moved.ensures

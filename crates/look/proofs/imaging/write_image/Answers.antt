@@ -13,6 +13,7 @@ use Rattle.settle.specs.Settling.{expose}
 use Rattle.settle.proofs.Expose.{expose-array-length}
 use Rattle.flash.proofs.Look.{seen, look-kept-page, sets_more, sets-all}
 use Rattle.look.proofs.imaging.write_image.Goals as goal
+use Rattle.look.proofs.imaging.write_image.Goals.{then-reaches, else-reaches}
 
 pub loop-page-init : goal.loop-page-init
 loop-page-init c = (omega arith, refl)
@@ -45,10 +46,10 @@ loop-page-preserved c =
     let next : (l.page + 1) * 128 ≡ n + 128 = omega arith in
     let kept = look-kept-page x.pulse x.latch.now (span x.exposure) cells l.page in
     let written : c.if-reaches.out ≡ sets l.out n (take 128 (drop n image)) =
-    ⊎_elim
-    (λ w. w.6 ∙ w.3.ensures)
-    (λ w. w.5 ∙ w.2.ensures ∙ ap (sets l.out n) (kept (sym c.reaches.ensures ∙ w.0.left)))
-    c.if-reaches.branch in
+    elim c.if-reaches.branch [
+      then-reaches w ↦ w.out-is ∙ w.write_exposed.ensures
+    | else-reaches w ↦ w.out-is ∙ w.write_stored.ensures ∙ ap (sets l.out n) (kept (sym c.reaches.ensures ∙ w.if-reaches.false))
+    ] in
     (omega arith, rw next (sets_more _ _ _ _ n 128 l.invariant.1 written (rw expose-array-length (omega arith))))
 
 pub shape_of-out : goal.shape_of-out

@@ -14,5 +14,5 @@ returns c =
     let f = c.requires.0 in
     let h = slots-from _ _ f.index_long f.charges_long f.slots in
     c.exposed_by.ensures
-    ∙ rw c.Cell-at.ensures (sym (look-cell _ _ _ _ h _ c.requires.1))
+    ∙ rw c.cell_at-q.ensures (sym (look-cell _ _ _ _ h _ c.requires.1))
     ∙ sym (ap (λ (k : Cells). cell_at k c.args.i) (c.view_at-view.ensures _ _))

@@ -10,11 +10,11 @@ use Rattle.look.proofs.looking.exposed_by.Goals as goal
 
 pub returns-then-not-reaches : goal.returns-then-not-reaches
 returns-then-not-reaches c =
-    let e = sym c.reaches.ensures ∙ not-true _ c.if-not-reaches.true in
+    let e = sym c.reaches.ensures ∙ c.if-not-reaches.true in
     rw (exposed-if, e)
 
 pub returns : goal.returns
 unfolding charged page_bit
 returns c =
-    let e = sym c.reaches.ensures ∙ not-false _ c.if-not-reaches.false in
+    let e = sym c.reaches.ensures ∙ c.if-not-reaches.false in
     rw (c.expose.ensures, c.bit.ensures, exposed-if, e)

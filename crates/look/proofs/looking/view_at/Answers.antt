@@ -13,4 +13,4 @@ returns-in-Closed c = λ latch k. rw (← c.pulse-open.ensures, c.in-Closed.is)
 pub returns-in-Open : goal.returns-in-Open
 unfolding settled_by exposure
 returns-in-Open c =
-    λ latch k. rw (c.since.ensures, c.max.ensures, span-since, ← c.pulse-open.ensures, c.«open».given.1)
+    λ latch k. rw (c.since.ensures, c.max.ensures, span-since, ← c.pulse-open.ensures, c.in-Open.is)

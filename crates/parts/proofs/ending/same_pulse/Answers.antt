@@ -7,3 +7,11 @@ pub returns-in-Open-b-2 : goal.returns-in-Open-b-2
 unfolding same_pulse
 returns-in-Open-b-2 c =
     rw (c.in-Open.is, c.in-Open-b-2.is, c.same_direction.ensures)
+
+pub returns-in-Closed-b : goal.returns-in-Closed-b
+unfolding same_pulse
+returns-in-Closed-b c = search rules
+
+pub returns-in-Closed-b-2 : goal.returns-in-Closed-b-2
+unfolding same_pulse
+returns-in-Closed-b-2 c = search rules

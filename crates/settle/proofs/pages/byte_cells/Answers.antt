@@ -37,10 +37,11 @@ pub loop-k-smaller : goal.loop-k-smaller
 loop-k-smaller c = omega arith
 
 pub loop-k-preserved : goal.loop-k-preserved
-loop-k-preserved c = let l = c.loop-k in (omega arith, partly-turn _ l.k _ _ _ l.invariant.1 c.Cell-at.ensures)
+loop-k-preserved c = let x = c.args in let l = c.loop-k in (omega arith, partly-turn (cell-there x.indices.now x.array.now x.charges.now x.address) l.k (replicate 8 0) l.cells _ l.invariant.1 c.cell_at.ensures)
 
 pub returns : goal.returns
 returns c =
+    let x = c.args in
     let l = c.loop-k in
     let e : l.k ≡ 8 = omega arith in
-    l.invariant.1 ∙ partly-all _ (replicate 8 0) _ e
+    l.invariant.1 ∙ partly-all (cell-there x.indices.now x.array.now x.charges.now x.address) (replicate 8 0) _ e
