@@ -2,11 +2,11 @@
 -- the first lies past the slice's end, so the second changes nothing there. Assumes nothing.
 use mathlib.Core.Path.{◌≡◌, refl, sym, ap, ◌∙◌}
 use mathlib.Core.List.{List, [], ◌∷◌, ◌++◌}
-use Prim.Native.Nat.{ℕ, zero, suc, ◌+◌, ◌-◌, ◌≤◌, ◌<◌, min}
-use native.Mathlib.Nat.{add-zero, min-eq_left, min-eq_right}
+use Prim.Native.Nat.{ℕ, suc, ◌+◌, ◌-◌, ◌≤◌, ◌<◌}
+use native.Mathlib.Nat.{add-zero, min-eq_left}
 use native.Mathlib.Omega.{arith}
 use native.Mathlib.Decide.{dec_le}
-use lib.ListN.{length, set, take, length-append, length-take, length-set}
+use lib.ListN.{length, set, length-append, length-take, length-set}
 use lib.Seq.{sets, length-sets, set_out, take-nil, take_all}
 use Rattle.text.specs.Puts.{fitting, Ends, Puts}
 

@@ -1,12 +1,12 @@
 -- `text::fill` meets its contract. The invariant: so much of the filled template is left to put, of its bytes from i on and of the
 -- numbers that are not used yet; at most one number is used for each byte. Assumes nothing.
-use Prim.Native.Nat.{◌≤◌, ◌<◌, ◌-◌}
-use mathlib.Core.Path.{◌≡◌, refl, sym, ap, ◌∙◌}
+use Prim.Native.Nat.{◌≤◌, ◌<◌}
+use mathlib.Core.Path.{refl, ap, ◌∙◌}
 use native.Mathlib.Omega.{arith}
 use borrow.Author.Rules.{rules}
 use lib.ListN.{length}
-use Rattle.text.specs.Text.{taken, filled}
-use Rattle.text.proofs.Filling.{taken-most, Left, rest, left-all, left_step, left-none}
+use Rattle.text.specs.Text.{taken}
+use Rattle.text.proofs.Filling.{taken-most, left-all, left_step, left-none}
 use Rattle.text.proofs.fill.Goals as goal
 
 pub loop-i-init : goal.loop-i-init
@@ -20,7 +20,7 @@ loop-i-preserved c =
     let inside : c.loop-i.i < length c.args.template.now = search rules in (
       search rules,
       omega (arith, c.taken-used.ensures, taken-most c.mark_of.result),
-      c.put_piece-end.auto.0 ∙ c.loop-i.invariant.2,
+      c.put_piece-end.auto.out ∙ c.loop-i.invariant.2,
       left_step _ _ _ _ _ _ _ _ _ _ _ _ _ _ c.loop-i.invariant.3 inside refl c.number_at.ensures (c.taken-used.ensures ∙ ap taken c.mark_of.ensures) c.put_piece-end.ensures,
     )
 

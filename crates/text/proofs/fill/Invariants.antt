@@ -1,12 +1,10 @@
 -- `text::fill` meets its contract. The invariant: so much of the filled template is left to put, of its bytes from i on and of the
 -- numbers that are not used yet; at most one number is used for each byte. Assumes nothing.
-use Prim.Native.Nat.{◌≤◌, ◌<◌, ◌-◌}
-use mathlib.Core.Path.{◌≡◌, refl, sym, ap, ◌∙◌}
-use native.Mathlib.Omega.{arith}
-use borrow.Author.Rules.{rules}
+use Prim.Native.Nat.{◌≤◌, ◌-◌}
+use mathlib.Core.Path.{◌≡◌}
 use lib.ListN.{length}
-use Rattle.text.specs.Text.{taken, filled}
-use Rattle.text.proofs.Filling.{taken-most, Left, rest, left-all, left_step, left-none}
+use Rattle.text.specs.Text.{filled}
+use Rattle.text.proofs.Filling.{Left, rest}
 use Rattle.text.proofs.fill.Given as goal
 
 abbrev pub invariant-loop-i : goal.invariant-loop-i

@@ -1,7 +1,6 @@
 -- `text::number_at` meets its contract: past the end of a list `get_or` gives what it is told to, which is 0.
 -- Assumes nothing.
 use mathlib.Core.Path.{sym}
-use borrow.Author.Rules.{rules}
 use lib.ListN.{get_or-eq_default}
 use Rattle.text.proofs.number_at.Goals as goal
 

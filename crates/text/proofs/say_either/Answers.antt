@@ -1,6 +1,5 @@
 -- `text::say_either` meets its contract: the branch that is taken is the template that is put.
 -- Assumes nothing.
-use borrow.Author.Rules.{rules}
 use Rattle.text.proofs.say_either.Goals as goal
 
 pub returns-then-first : goal.returns-then-first

@@ -1,7 +1,5 @@
 -- `text::marks::mark_of` meets its contract: the byte that is matched picks the definition's case.
 -- Assumes nothing.
-use borrow.Author.Rules.{rules}
-use borrow.Author.Tests.{ne_eqb}
 use Rattle.text.proofs.marks.mark_of.Goals as goal
 
 pub returns-in-37 : goal.returns-in-37
@@ -18,8 +16,3 @@ returns-in-94 c = rw (c.in-94.is, c.number-in-94.ensures)
 
 pub returns-in-64 : goal.returns-in-64
 returns-in-64 c = rw c.in-64.is
-
-pub returns-in_default : goal.returns-in_default
-returns-in_default c =
-    let other = c.in_default.in_default-own.rest in
-    rw (ne_eqb _ 37 other.0.0.0.0.1, ne_eqb _ 36 other.0.0.0.1, ne_eqb _ 38 other.0.0.1, ne_eqb _ 94 other.0.1, ne_eqb _ 64 other.1)

@@ -1,6 +1,5 @@
 -- `text::marks::put_piece` meets its contract: the mark that is matched picks the definition's case.
 -- Assumes nothing.
-use borrow.Author.Rules.{rules}
 use Rattle.text.proofs.marks.put_piece.Goals as goal
 
 pub returns-in-Plain : goal.returns-in-Plain

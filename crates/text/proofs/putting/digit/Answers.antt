@@ -1,6 +1,5 @@
 -- `text::putting::digit` meets its contract: the branch that is taken is the definition's test.
 -- Assumes nothing.
-use borrow.Author.Rules.{rules}
 use borrow.Author.Tests.{lt-ltb, le-ltb}
 use Rattle.text.proofs.putting.digit.Goals as goal
 

@@ -1,6 +1,5 @@
 -- `text::putting::put_byte` meets its contract: a byte that fits is put, and one that does not is cut off.
 -- Assumes nothing.
-use borrow.Author.Rules.{rules}
 use Rattle.text.proofs.Joined.{puts-byte, puts-no-byte}
 use Rattle.text.proofs.putting.put_byte.Goals as goal
 

@@ -1,12 +1,11 @@
 -- `text::putting::put_text` meets its contract. The invariant: the bytes passed are put, and the slice is as long as it was.
 -- Assumes nothing.
-use Prim.Native.Nat.{◌≤◌, ◌<◌, ◌-◌}
-use mathlib.Core.Path.{◌≡◌, ◌∙◌}
+use Prim.Native.Nat.{◌≤◌, ◌<◌}
+use mathlib.Core.Path.{◌∙◌}
 use native.Mathlib.Numerals.{add-one}
 use borrow.Author.Rules.{rules}
-use lib.ListN.{length, take}
+use lib.ListN.{length}
 use lib.Seq.{take-suc, take_all}
-use Rattle.text.specs.Puts.{Puts}
 use Rattle.text.proofs.Joined.{puts_none, puts-append}
 use Rattle.text.proofs.putting.put_text.Goals as goal
 
@@ -18,7 +17,7 @@ loop-i-preserved c =
     let text = c.args.text.now in
     let inside : c.loop-i.i < length text = search rules in (
       search rules,
-      c.put_byte-end.auto.0 ∙ c.loop-i.invariant.1,
+      c.put_byte-end.auto.out ∙ c.loop-i.invariant.1,
       rw (add-one, take-suc text c.loop-i.i 0 inside) (puts-append _ _ _ _ _ _ _ _ c.loop-i.invariant.2 c.put_byte-end.ensures),
     )
 

@@ -1,13 +1,9 @@
 -- `text::putting::put_text` meets its contract. The invariant: the bytes passed are put, and the slice is as long as it was.
 -- Assumes nothing.
-use Prim.Native.Nat.{◌≤◌, ◌<◌, ◌-◌}
-use mathlib.Core.Path.{◌≡◌, ◌∙◌}
-use native.Mathlib.Numerals.{add-one}
-use borrow.Author.Rules.{rules}
+use Prim.Native.Nat.{◌≤◌, ◌-◌}
+use mathlib.Core.Path.{◌≡◌}
 use lib.ListN.{length, take}
-use lib.Seq.{take-suc, take_all}
 use Rattle.text.specs.Puts.{Puts}
-use Rattle.text.proofs.Joined.{puts_none, puts-append}
 use Rattle.text.proofs.putting.put_text.Given as goal
 
 abbrev pub invariant-loop-i : goal.invariant-loop-i
