@@ -1,6 +1,5 @@
-// The permit of normal reading: a struct that holds the array. It is made under normal reading alone, and read by two thin functions. The
-// borrow checker covers no function that has such a struct in a local, so those that do are walks by hand; `byte_at` and `word_at`, on the
-// slice, do the work, and whoever calls `serve_byte` or `serve_word` needs no walk.
+// The permit of normal reading: a struct that holds the array. It is made under normal reading alone, and read by two thin functions;
+// `byte_at` and `word_at`, on the slice, do the work.
 #![tactic(auto)]
 
 ghost use Rattle.std.specs.Prelude.{◌≡◌, true, suc, ◌+◌, ◌*◌, ◌<◌, length};

@@ -1,7 +1,6 @@
 -- `access::control_set` meets its contract: each new field is what the call for it ensures; the others stay.
 -- Assumes nothing.
 use Rattle.registers.specs.Access.{control_set}
-use borrow.Author.Rules.{rules}
 use Rattle.access.proofs.control_set.Goals as goal
 
 pub returns : goal.returns

@@ -2,7 +2,6 @@
 -- Assumes nothing.
 use borrow.Author.Tests.{eq-eqb, ne_eqb}
 use Rattle.registers.specs.Access.{register}
-use borrow.Author.Rules.{rules}
 use Rattle.access.proofs.register.Goals as goal
 
 pub returns-then-address-eq-FENR : goal.returns-then-address-eq-FENR

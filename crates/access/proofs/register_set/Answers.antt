@@ -3,7 +3,6 @@
 use borrow.Author.Tests.{ne_eqb}
 use mathlib.Core.Path.{sym, ◌∙◌}
 use Rattle.registers.specs.Access.{register_set}
-use borrow.Author.Rules.{rules}
 use Rattle.access.proofs.register_set.Goals as goal
 
 pub returns-then-has : goal.returns-then-has

@@ -1,6 +1,5 @@
 -- `access::write_control` meets its contract: the two calls compose as the definitions do.
 -- Assumes nothing.
-use borrow.Author.Rules.{rules}
 use Rattle.access.proofs.write_control.Goals as goal
 
 pub returns : goal.returns

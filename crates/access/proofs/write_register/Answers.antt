@@ -3,7 +3,6 @@
 use Rattle.registers.proofs.Tests.{cond_yes}
 use borrow.Author.Tests.{eq-eqb, ne_eqb}
 use Rattle.registers.specs.Access.{write_register}
-use borrow.Author.Rules.{rules}
 use Rattle.access.proofs.write_register.Goals as goal
 
 pub returns-then-address-eq-FENR : goal.returns-then-address-eq-FENR

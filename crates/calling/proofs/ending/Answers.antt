@@ -7,7 +7,6 @@ use Rattle.cell.specs.declared.Direction.TheVariants.{Program, Erase}
 use Rattle.control.specs.Bits.{setup}
 use Rattle.registers.specs.Calls.{ending}
 use native.Mathlib.Omega.{arith}
-use borrow.Author.Rules.{rules}
 use Rattle.calling.proofs.ending.Goals as goal
 
 -- a setup bit and SWE make a byte

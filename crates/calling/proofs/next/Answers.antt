@@ -1,7 +1,6 @@
 -- `calling::next` meets its contract: each arm knows the call, by which the definition computes to what the callee
 -- ensures. Assumes nothing.
 use Rattle.registers.specs.Calls.{next}
-use borrow.Author.Rules.{rules}
 use Rattle.calling.proofs.next.Goals as goal
 
 pub returns-in-WriteRegister : goal.returns-in-WriteRegister

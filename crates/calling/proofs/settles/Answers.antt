@@ -1,6 +1,5 @@
 -- `calling::settles` meets its contract: each arm knows the call, by which the definition computes. Assumes nothing.
 use Rattle.registers.specs.Calls.{settles}
-use borrow.Author.Rules.{rules}
 use Rattle.calling.proofs.settles.Goals as goal
 
 pub returns-in-WriteRegister : goal.returns-in-WriteRegister

@@ -1,6 +1,5 @@
 -- `calling::writes_control` meets its contract: each arm knows the call, by which the definition computes. Assumes
 -- nothing.
-use borrow.Author.Rules.{rules}
 use Rattle.calling.proofs.writes_control.Goals as goal
 
 pub returns-in-WriteRegister : goal.returns-in-WriteRegister

@@ -1,7 +1,6 @@
 -- `environment::clears` meets its contract: the calls give the numbers that the definition compares.
 -- Assumes nothing.
 use Rattle.registers.specs.Environment.{clears}
-use borrow.Author.Rules.{rules}
 use Rattle.environment.proofs.clears.Goals as goal
 
 pub returns : goal.returns

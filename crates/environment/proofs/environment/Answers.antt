@@ -2,7 +2,6 @@
 -- Assumes nothing.
 use Rattle.registers.specs.Environment.{environment}
 use mathlib.Core.Path.{sym, ◌∙◌}
-use borrow.Author.Rules.{rules}
 use Rattle.environment.proofs.environment.Goals as goal
 
 pub returns-then-unchanged : goal.returns-then-unchanged

@@ -1,7 +1,6 @@
 -- `environment::environment_set` meets its contract: each new field is what the call for it ensures; the others stay.
 -- Assumes nothing.
 use Rattle.registers.specs.Environment.{environment_set}
-use borrow.Author.Rules.{rules}
 use Rattle.environment.proofs.environment_set.Goals as goal
 
 pub returns : goal.returns

@@ -1,7 +1,6 @@
 -- `environment::power_off` meets its contract: it is a reset with three fields changed.
 -- Assumes nothing.
 use Rattle.registers.specs.Environment.{power_off}
-use borrow.Author.Rules.{rules}
 use Rattle.environment.proofs.power_off.Goals as goal
 
 pub returns : goal.returns

@@ -1,7 +1,6 @@
 -- `environment::reset` meets its contract: the calls compose as the definitions do, and the other fields are the definition's.
 -- Assumes nothing.
 use Rattle.registers.specs.Environment.{reset, blank_latch}
-use borrow.Author.Rules.{rules}
 use Rattle.environment.proofs.reset.Goals as goal
 
 pub returns : goal.returns

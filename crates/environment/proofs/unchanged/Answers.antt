@@ -1,7 +1,6 @@
 -- `environment::unchanged` meets its contract: the calls give the numbers that the definition compares.
 -- Assumes nothing.
 use Rattle.registers.specs.Environment.{unchanged}
-use borrow.Author.Rules.{rules}
 use Rattle.environment.proofs.unchanged.Goals as goal
 
 pub returns : goal.returns

@@ -1,7 +1,6 @@
 -- `latch::data_taken` meets its contract: the tests, with what `reached` ensures, pick the definition's case.
 -- Assumes nothing.
 use Rattle.registers.specs.Latch.{data_taken}
-use borrow.Author.Rules.{rules}
 use Rattle.latch.proofs.data_taken.Goals as goal
 
 pub returns-then-low-reached : goal.returns-then-low-reached

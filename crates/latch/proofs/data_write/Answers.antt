@@ -2,7 +2,6 @@
 -- Assumes nothing.
 use Rattle.registers.specs.Latch.{data_write}
 use mathlib.Core.Path.{sym, ◌∙◌}
-use borrow.Author.Rules.{rules}
 use Rattle.latch.proofs.data_write.Goals as goal
 
 pub returns-then-takes_data : goal.returns-then-takes_data

@@ -1,6 +1,5 @@
 -- `latch::sense_pending` meets its contract: the calls give the latest of the four instants.
 -- Assumes nothing.
-use borrow.Author.Rules.{rules}
 use Rattle.latch.proofs.sense_pending.Goals as goal
 
 pub returns : goal.returns

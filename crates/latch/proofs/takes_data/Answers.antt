@@ -1,6 +1,5 @@
 -- `latch::takes_data` meets its contract: the calls give the definition's conditions.
 -- Assumes nothing.
-use borrow.Author.Rules.{rules}
 use Rattle.latch.proofs.takes_data.Goals as goal
 
 pub returns : goal.returns

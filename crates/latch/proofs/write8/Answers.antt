@@ -1,7 +1,6 @@
 -- `latch::write8` meets its contract: the two calls compose as the definitions do.
 -- Assumes nothing.
 use Rattle.registers.specs.Latch.{write8}
-use borrow.Author.Rules.{rules}
 use Rattle.latch.proofs.write8.Goals as goal
 
 pub returns : goal.returns
