@@ -15,3 +15,7 @@ returns-in-Closed-b c = search rules
 pub returns-in-Closed-b-2 : goal.returns-in-Closed-b-2
 unfolding same_pulse
 returns-in-Closed-b-2 c = search rules
+
+pub returns-in-Open-b : goal.returns-in-Open-b
+unfolding same_pulse
+returns-in-Open-b c = search rules

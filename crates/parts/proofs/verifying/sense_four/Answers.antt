@@ -51,8 +51,14 @@ loop-k-smaller c = omega arith
 
 pub loop-k-preserved : goal.loop-k-preserved
 loop-k-preserved c =
-    let l = c.loop-k in (omega arith, partly-turn _ l.k _ _ _ l.invariant.1 (c.sense_byte.ensures ∙ tabled _ _ _ _ c.byte_cells-cells.ensures))
+    let x = c.args in
+    let l = c.loop-k in
+    (omega arith, partly-turn (four-there x.m x.address x.indices.now x.array.now x.charges.now) l.k (replicate 4 0) l.bytes _ l.invariant.1 (c.sense_byte.ensures ∙ tabled _ _ _ _ c.byte_cells-cells.ensures))
 
 pub returns : goal.returns
 unfolding four_sensed
-returns c = let l = c.loop-k in let e : l.k ≡ 4 = omega arith in l.invariant.1 ∙ partly-all _ (replicate 4 0) _ e
+returns c =
+    let x = c.args in
+    let l = c.loop-k in
+    let e : l.k ≡ 4 = omega arith in
+    l.invariant.1 ∙ partly-all (four-there x.m x.address x.indices.now x.array.now x.charges.now) (replicate 4 0) _ e
