@@ -1,6 +1,6 @@
 -- Cells: sizes, classes, sensing, and the rule of one cell. Document 01, "Cells and sensing" and "Pulses and settling".
 -- Assumes nothing.
-use Rattle.std.specs.Prelude.{ℕ, zero, suc, ◌+◌, ◌-◌, ◌*◌, ◌/◌, ◌%◌, ◌^◌, min, List, [], ◌∷◌, Bool, true, false, cond, get_or, replicate, ltb, leb, eqb}
+use Rattle.std.specs.Prelude.{ℕ, zero, suc, ◌+◌, ◌-◌, ◌*◌, ◌/◌, ◌%◌, ◌^◌, min, List, [], ◌∷◌, Bool, cond, get_or, replicate, ltb, leb, eqb}
 use Rattle.std.specs.Int.Bits.{bit_xor}
 use Rattle.cell.specs.declared.Sense.{Sense}
 use Rattle.cell.specs.declared.Sense.TheVariants.{Normal, ProgramVerify, EraseVerify}

@@ -1,6 +1,6 @@
 -- Pulses: which is open, when reading is normal, and what protection does. Document 01, "Pulses and settling".
 -- Assumes nothing.
-use Rattle.std.specs.Prelude.{ℕ, ◌/◌, ◌%◌, Bool, true, false, cond, not, ◌&&◌, eqb}
+use Rattle.std.specs.Prelude.{◌/◌, ◌%◌, Bool, true, false, cond, not, ◌&&◌, eqb}
 use Rattle.time.specs.declared.Time.{Time}
 use Rattle.time.specs.Raw.{later, after}
 use Rattle.cell.specs.declared.Direction.TheVariants.{Program, Erase}

@@ -1,6 +1,5 @@
 -- `bits::control_value` meets its contract: the branch taken is the one that the value's SWE chooses.
 -- Assumes nothing.
-use borrow.Author.Rules.{rules}
 use Rattle.bits.proofs.control_value.Goals as goal
 
 pub returns-then-has : goal.returns-then-has

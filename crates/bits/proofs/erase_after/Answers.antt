@@ -1,7 +1,6 @@
 -- `bits::erase_after` meets its contract: the branch taken is the one that SWE chooses.
 -- Assumes nothing.
 use mathlib.Core.Path.{sym, ◌∙◌}
-use borrow.Author.Rules.{rules}
 use Rattle.bits.proofs.erase_after.Goals as goal
 
 pub returns-then-has : goal.returns-then-has

@@ -1,7 +1,6 @@
 -- `bits::erase_value` meets its contract: the count of bits is the definition's, and so is the test.
 -- Assumes nothing.
 use borrow.Author.Tests.{le-leb, lt-leb}
-use borrow.Author.Rules.{rules}
 use Rattle.bits.proofs.erase_value.Goals as goal
 
 pub returns-then-count-le1 : goal.returns-then-count-le1

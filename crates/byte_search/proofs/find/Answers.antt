@@ -1,6 +1,5 @@
 -- A turn passes one byte of the stretch: the searched one, or one more before it.
-use Rattle.std.proofs.Common.{◌≡◌, ℕ, suc, ◌+◌, ◌<◌, ◌≤◌, ◌≢◌, List, length, get_or, refl, sym, add-one, arith}
-use lib.Dec.{eqb}
+use Rattle.std.proofs.Common.{◌≡◌, ℕ, suc, ◌+◌, ◌<◌, ◌≤◌, ◌≢◌, List, length, get_or, add-one, arith}
 use lib.Seq.{slice-cons, slice_empty}
 use borrow.Author.Tests.{eq-eqb, ne_eqb}
 use Rattle.byte_search.specs.Search.{slice, index_of, index_after}

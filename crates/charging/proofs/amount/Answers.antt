@@ -1,7 +1,6 @@
 -- `charging::amount` meets its contract: each return is one case of the clipped amount.
 -- Assumes nothing.
 use native.Mathlib.Omega.{arith}
-use borrow.Author.Rules.{rules}
 use Rattle.cell.proofs.Amount.{rate-some, amount-long, amount-past, amount-fits, amount-within}
 use Rattle.charging.proofs.amount.Goals as goal
 

@@ -1,17 +1,17 @@
 -- `charging::charge` meets its contract. The invariant of both loops: the cells passed are moved by the clipped amount, and the others are
 -- as they were; at the end the clipped amount is replaced by the exposure's, cell by cell.
 -- Assumes nothing.
-use Prim.Native.Nat.{ℕ, ◌+◌, ◌<◌, ◌≤◌, ◌-◌, ◌*◌, ◌^◌, min}
+use Prim.Native.Nat.{ℕ, ◌+◌, ◌<◌, ◌-◌, ◌*◌, ◌^◌, min}
 use mathlib.Core.List.{List}
 use mathlib.Core.Path.{◌≡◌, refl, sym, ◌∙◌}
 use native.Mathlib.Nat.{add-zero}
 use native.Mathlib.Omega.{arith}
-use lib.ListN.{length, length-set}
+use lib.ListN.{length-set}
 use Rattle.time.specs.Raw.{span}
-use Rattle.cell.specs.Cell.{at, mapi, rate, moved, page_bit, charged_page}
+use Rattle.cell.specs.Cell.{at, mapi, rate, page_bit, charged_page}
 use Rattle.cell.specs.declared.Direction.{Direction}
 use Rattle.cell.proofs.Maps.{mapi-same}
-use Rattle.cell.proofs.Partly.{partly, partly-turn, partly-all, Further, cell-bit}
+use Rattle.cell.proofs.Partly.{partly-turn, partly-all, cell-bit}
 use Rattle.cell.proofs.Rule.{clipped-exposes}
 use Rattle.charging.proofs.charge.Invariants.{ruled}
 use Rattle.charging.proofs.charge.Goals as goal

@@ -1,18 +1,13 @@
 -- `charging::charge` meets its contract. The invariant of both loops: the cells passed are moved by the clipped amount, and the others are
 -- as they were; at the end the clipped amount is replaced by the exposure's, cell by cell.
 -- Assumes nothing.
-use Prim.Native.Nat.{ℕ, ◌+◌, ◌<◌, ◌≤◌, ◌-◌, ◌*◌, ◌^◌, min}
+use Prim.Native.Nat.{ℕ, ◌+◌, ◌≤◌, ◌-◌, ◌*◌}
 use mathlib.Core.List.{List}
-use mathlib.Core.Path.{◌≡◌, refl, sym, ◌∙◌}
-use native.Mathlib.Nat.{add-zero}
-use native.Mathlib.Omega.{arith}
-use lib.ListN.{length, length-set}
-use Rattle.time.specs.Raw.{span}
-use Rattle.cell.specs.Cell.{at, mapi, rate, moved, page_bit, charged_page}
+use mathlib.Core.Path.{◌≡◌}
+use lib.ListN.{length}
+use Rattle.cell.specs.Cell.{moved, page_bit}
 use Rattle.cell.specs.declared.Direction.{Direction}
-use Rattle.cell.proofs.Maps.{mapi-same}
-use Rattle.cell.proofs.Partly.{partly, partly-turn, partly-all, Further, cell-bit}
-use Rattle.cell.proofs.Rule.{clipped-exposes}
+use Rattle.cell.proofs.Partly.{partly, Further}
 use Rattle.charging.proofs.charge.Given as goal
 
 -- the cell j of a page with charge q, moved by an amount

@@ -1,7 +1,6 @@
 -- `charging::charge_slot` meets its contract: the slot's cells, lent to `charge` and put back, are the rule on that slot.
 -- Assumes nothing.
 use native.Mathlib.Omega.{arith}
-use borrow.Author.Rules.{rules}
 use Rattle.cell.specs.Cell.{charged_slot, charged_page}
 use Rattle.cell.proofs.Slot.{slot-back}
 use Rattle.charging.proofs.charge_slot.Goals as goal

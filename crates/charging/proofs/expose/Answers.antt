@@ -2,7 +2,6 @@
 -- Assumes nothing.
 use mathlib.Core.Path.{◌∙◌}
 use native.Mathlib.Omega.{arith}
-use borrow.Author.Rules.{rules}
 use Rattle.time.specs.Raw.{span}
 use Rattle.cell.proofs.Rule.{clipped-exposes}
 use Rattle.charging.proofs.expose.Goals as goal

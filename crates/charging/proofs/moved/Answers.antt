@@ -1,7 +1,6 @@
 -- `charging::moved` meets its contract: each return is one case of the rule of a cell, with the tests on the way put in.
 -- Assumes nothing.
 use native.Mathlib.Omega.{arith}
-use borrow.Author.Rules.{rules}
 use borrow.Author.Tests.{eq-eqb, ne_eqb}
 use Rattle.cell.specs.Cell.{moved}
 use Rattle.charging.proofs.moved.Goals as goal

@@ -1,14 +1,13 @@
 -- `charging::open` meets its contract. The invariant of both loops: the cells passed have their first charges, and the others are as
 -- they were.
 -- Assumes nothing.
-use Prim.Native.Nat.{ℕ, ◌+◌, ◌*◌, ◌≤◌, ◌-◌}
-use mathlib.Core.List.{List}
+use Prim.Native.Nat.{◌+◌, ◌*◌}
 use mathlib.Core.Path.{◌≡◌, refl, sym, ◌∙◌}
 use native.Mathlib.Nat.{add-zero}
 use native.Mathlib.Omega.{arith}
-use lib.ListN.{length, length-set}
-use Rattle.cell.specs.Cell.{opened_page, page_bit, first_charge}
-use Rattle.cell.proofs.Partly.{partly, partly-turn, partly-all, Further, cell-bit}
+use lib.ListN.{length-set}
+use Rattle.cell.specs.Cell.{opened_page}
+use Rattle.cell.proofs.Partly.{partly-turn, partly-all, cell-bit}
 use Rattle.charging.proofs.open.Invariants.{first}
 use Rattle.charging.proofs.open.Goals as goal
 

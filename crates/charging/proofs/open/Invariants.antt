@@ -3,12 +3,10 @@
 -- Assumes nothing.
 use Prim.Native.Nat.{ℕ, ◌+◌, ◌*◌, ◌≤◌, ◌-◌}
 use mathlib.Core.List.{List}
-use mathlib.Core.Path.{◌≡◌, refl, sym, ◌∙◌}
-use native.Mathlib.Nat.{add-zero}
-use native.Mathlib.Omega.{arith}
-use lib.ListN.{length, length-set}
-use Rattle.cell.specs.Cell.{opened_page, page_bit, first_charge}
-use Rattle.cell.proofs.Partly.{partly, partly-turn, partly-all, Further, cell-bit}
+use mathlib.Core.Path.{◌≡◌}
+use lib.ListN.{length}
+use Rattle.cell.specs.Cell.{page_bit, first_charge}
+use Rattle.cell.proofs.Partly.{partly, Further}
 use Rattle.charging.proofs.open.Given as goal
 
 -- the first charge of the cell j of a page

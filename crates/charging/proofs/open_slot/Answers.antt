@@ -1,7 +1,6 @@
 -- `charging::open_slot` meets its contract: the slot's cells, lent to `open` and put back, are the rule on that slot.
 -- Assumes nothing.
 use native.Mathlib.Omega.{arith}
-use borrow.Author.Rules.{rules}
 use Rattle.cell.specs.Cell.{opened_slot, opened_page}
 use Rattle.cell.proofs.Slot.{slot-back}
 use Rattle.charging.proofs.open_slot.Goals as goal

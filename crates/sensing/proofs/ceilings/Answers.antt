@@ -1,14 +1,12 @@
 -- `sensing::ceilings` meets its contract. The loop's invariant: each place passed holds the ceiling of the class there, which is the cell's.
 -- Assumes nothing.
-use Prim.Native.Nat.{ℕ, ◌≤◌, ◌-◌, ◌%◌}
 use mathlib.Core.Path.{◌≡◌, refl, ◌∙◌}
-use mathlib.Core.List.{List}
 use native.Mathlib.Omega.{arith}
 use lib.ListN.{replicate}
-use Rattle.cell.specs.Cell.{at, class_of, ceiling_of, ceiling_table}
+use Rattle.cell.specs.Cell.{class_of, ceiling_of, ceiling_table}
 use Rattle.cell.proofs.Ceiling.{ceiling-by-class}
 use Rattle.cell.proofs.Maps.{mapi-same}
-use Rattle.cell.proofs.Partly.{partly, partly-turn, partly-all}
+use Rattle.cell.proofs.Partly.{partly-turn, partly-all}
 use Rattle.sensing.proofs.ceilings.Invariants.{by-class-there}
 use Rattle.sensing.proofs.ceilings.Goals as goal
 

@@ -1,14 +1,10 @@
 -- `sensing::ceilings` meets its contract. The loop's invariant: each place passed holds the ceiling of the class there, which is the cell's.
 -- Assumes nothing.
 use Prim.Native.Nat.{ℕ, ◌≤◌, ◌-◌, ◌%◌}
-use mathlib.Core.Path.{◌≡◌, refl, ◌∙◌}
+use mathlib.Core.Path.{◌≡◌}
 use mathlib.Core.List.{List}
-use native.Mathlib.Omega.{arith}
-use lib.ListN.{replicate}
-use Rattle.cell.specs.Cell.{at, class_of, ceiling_of, ceiling_table}
-use Rattle.cell.proofs.Ceiling.{ceiling-by-class}
-use Rattle.cell.proofs.Maps.{mapi-same}
-use Rattle.cell.proofs.Partly.{partly, partly-turn, partly-all}
+use Rattle.cell.specs.Cell.{at}
+use Rattle.cell.proofs.Partly.{partly}
 use Rattle.sensing.proofs.ceilings.Given as goal
 
 abbrev pub by-class-there : List ℕ → List ℕ → ℕ → ℕ → ℕ

@@ -1,6 +1,5 @@
 -- `sensing::row` meets its contract: each row is the rule of ceilings for its mode written out, by computing the rule.
 -- Assumes nothing.
-use borrow.Author.Rules.{rules}
 use Rattle.cell.specs.Cell.{ceiling_of, limit_of}
 use Rattle.sensing.proofs.row.Goals as goal
 

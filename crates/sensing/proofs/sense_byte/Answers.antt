@@ -2,7 +2,6 @@
 -- Assumes nothing.
 use Rattle.cell.specs.Cell.{sensed_byte, from_bits}
 use native.Mathlib.Omega.{arith}
-use borrow.Author.Rules.{rules}
 use Rattle.sensing.proofs.sense_byte.Goals as goal
 
 pub returns : goal.returns

@@ -3,7 +3,6 @@
 use native.Mathlib.Nat.{add-zero}
 use Rattle.cell.specs.Cell.{from_bits}
 use native.Mathlib.Omega.{arith}
-use borrow.Author.Rules.{rules}
 use Rattle.sensing.proofs.sense_nibble.Goals as goal
 
 pub returns : goal.returns

@@ -1,13 +1,13 @@
 -- `sensing::sense_page` meets its contract. The loop's invariant: the bytes passed are what their cells sense, and the others are as they
 -- were; the eight cells lent to `sense_byte` are those of the page from eight times the byte's place on.
 -- Assumes nothing.
-use Prim.Native.Nat.{◌≤◌, ◌-◌, ◌+◌, ◌*◌}
+use Prim.Native.Nat.{◌-◌, ◌+◌, ◌*◌}
 use mathlib.Core.Path.{◌≡◌, refl, sym, ◌∙◌}
 use native.Mathlib.Omega.{arith}
-use lib.ListN.{length, length-set, length-take, length-drop}
+use lib.ListN.{length-set, length-take, length-drop}
 use lib.Seq.{get_or-take, get_or-drop}
 use Rattle.cell.specs.Cell.{sensed_page, sensed_byte, at}
-use Rattle.cell.proofs.Partly.{partly, partly-turn, partly-all}
+use Rattle.cell.proofs.Partly.{partly-turn, partly-all}
 use Rattle.cell.proofs.Sensed.{sensed_byte-same}
 use Rattle.sensing.proofs.sense_page.Goals as goal
 

@@ -2,13 +2,10 @@
 -- were; the eight cells lent to `sense_byte` are those of the page from eight times the byte's place on.
 -- Assumes nothing.
 use Prim.Native.Nat.{◌≤◌, ◌-◌, ◌+◌, ◌*◌}
-use mathlib.Core.Path.{◌≡◌, refl, sym, ◌∙◌}
-use native.Mathlib.Omega.{arith}
-use lib.ListN.{length, length-set, length-take, length-drop}
-use lib.Seq.{get_or-take, get_or-drop}
-use Rattle.cell.specs.Cell.{sensed_page, sensed_byte, at}
-use Rattle.cell.proofs.Partly.{partly, partly-turn, partly-all}
-use Rattle.cell.proofs.Sensed.{sensed_byte-same}
+use mathlib.Core.Path.{◌≡◌}
+use lib.ListN.{length}
+use Rattle.cell.specs.Cell.{sensed_byte, at}
+use Rattle.cell.proofs.Partly.{partly}
 use Rattle.sensing.proofs.sense_page.Given as goal
 
 abbrev pub invariant-loop-i : goal.invariant-loop-i

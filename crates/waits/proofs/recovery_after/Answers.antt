@@ -1,7 +1,6 @@
 -- `waits::recovery_after` meets its contract: each call gives one step of the definition.
 -- Assumes nothing.
 use Rattle.control.specs.Waits.{recovery_after}
-use borrow.Author.Rules.{rules}
 use Rattle.waits.proofs.recovery_after.Goals as goal
 
 pub returns : goal.returns

@@ -1,6 +1,5 @@
 -- `waits::renewed` meets its contract: the branch taken is the one that the definition chooses.
 -- Assumes nothing.
-use borrow.Author.Rules.{rules}
 use Rattle.waits.proofs.renewed.Goals as goal
 
 pub returns-then-due : goal.returns-then-due

@@ -2,7 +2,6 @@
 -- Assumes nothing.
 use Rattle.control.specs.Waits.{verify_ready_after}
 use mathlib.Core.Path.{sym, ◌∙◌}
-use borrow.Author.Rules.{rules}
 use Rattle.waits.proofs.verify_ready_after.Goals as goal
 
 pub returns-then-has : goal.returns-then-has

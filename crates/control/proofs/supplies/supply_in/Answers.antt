@@ -1,7 +1,6 @@
 -- `control::supplies::supply_in` meets its contract: the tests on the mode's number pick the definition's case.
 -- Assumes nothing.
 use Rattle.control.specs.Supplies.{supply_in}
-use borrow.Author.Rules.{rules}
 use Rattle.control.proofs.supplies.supply_in.Goals as goal
 
 pub returns-then-module-n : goal.returns-then-module-n

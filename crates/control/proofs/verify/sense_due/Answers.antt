@@ -1,6 +1,5 @@
 -- `control::verify::sense_due` meets its contract: a sense that is pending is due by the two calls' tests.
 -- Assumes nothing.
-use borrow.Author.Rules.{rules}
 use Rattle.control.proofs.verify.sense_due.Goals as goal
 
 pub returns-in-Sense : goal.returns-in-Sense

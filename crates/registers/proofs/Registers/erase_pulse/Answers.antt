@@ -1,5 +1,4 @@
 -- `registers::Registers::erase_pulse` meets its contract, by what `ready_for` and `erase_range` ensure. Assumes nothing.
-use borrow.Author.Rules.{rules}
 use Rattle.registers.proofs.Registers.erase_pulse.Goals as goal
 
 pub returns : goal.returns

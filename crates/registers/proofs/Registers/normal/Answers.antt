@@ -1,6 +1,5 @@
 -- `registers::Registers::normal` meets its contract, by what `reached` and `supply_number` ensure. Assumes nothing.
 use Rattle.registers.specs.Pulses.{normal}
-use borrow.Author.Rules.{rules}
 use Rattle.registers.proofs.Registers.normal.Goals as goal
 
 pub returns : goal.returns

@@ -1,5 +1,4 @@
 -- `registers::Registers::powered` meets its contract, by what `has` and `supply_number` ensure. Assumes nothing.
-use borrow.Author.Rules.{rules}
 use Rattle.registers.proofs.Registers.powered.Goals as goal
 
 pub returns : goal.returns

@@ -1,5 +1,4 @@
 -- `registers::Registers::program_pulse` meets its contract, by what `ready_for` ensures. Assumes nothing.
-use borrow.Author.Rules.{rules}
 use Rattle.registers.proofs.Registers.program_pulse.Goals as goal
 
 pub returns : goal.returns

@@ -2,7 +2,6 @@
 -- nothing.
 use Rattle.registers.specs.Pulses.{protect}
 use mathlib.Core.Path.{sym}
-use borrow.Author.Rules.{rules}
 use Rattle.registers.proofs.Registers.protect.Goals as goal
 
 pub returns-in-Closed : goal.returns-in-Closed

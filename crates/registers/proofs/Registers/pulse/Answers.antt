@@ -2,7 +2,6 @@
 -- Assumes nothing.
 use Rattle.registers.specs.Pulses.{pulse}
 use mathlib.Core.Path.{sym, ◌∙◌}
-use borrow.Author.Rules.{rules}
 use Rattle.registers.proofs.Registers.pulse.Goals as goal
 
 pub returns-then-low-has : goal.returns-then-low-has

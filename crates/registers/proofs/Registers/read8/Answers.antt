@@ -1,7 +1,6 @@
 -- `registers::Registers::read8` meets its contract: the test of normal reading decides the definition's. Assumes nothing.
 use Rattle.registers.specs.Pulses.{read8}
 use mathlib.Core.Path.{sym, ◌∙◌}
-use borrow.Author.Rules.{rules}
 use Rattle.registers.proofs.Registers.read8.Goals as goal
 
 pub returns-then-normal : goal.returns-then-normal

@@ -1,5 +1,4 @@
 -- `registers::Registers::ready_for` meets its contract, by what the three calls of `max` ensure. Assumes nothing.
-use borrow.Author.Rules.{rules}
 use Rattle.registers.proofs.Registers.ready_for.Goals as goal
 
 pub returns : goal.returns

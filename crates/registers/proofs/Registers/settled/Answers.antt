@@ -2,7 +2,6 @@
 -- Assumes nothing.
 use Rattle.registers.specs.Access.{settled}
 use mathlib.Core.Path.{sym, ◌∙◌}
-use borrow.Author.Rules.{rules}
 use Rattle.registers.proofs.Registers.settled.Goals as goal
 
 pub returns-then-sense_due : goal.returns-then-sense_due

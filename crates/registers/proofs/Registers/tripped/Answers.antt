@@ -5,7 +5,6 @@ use lib.Dec.{lit<}
 use Rattle.cell.specs.declared.Direction.{Direction}
 use Rattle.cell.specs.declared.Direction.TheVariants.{Program, Erase}
 use Rattle.control.specs.Waits.{trip_wait}
-use borrow.Author.Rules.{rules}
 use Rattle.registers.proofs.Registers.tripped.Goals as goal
 
 -- a pulse's wait is below a second

@@ -3,7 +3,6 @@
 use mathlib.Core.Path.{refl}
 use Rattle.time.proofs.Laws.{is-micros}
 use native.Mathlib.Omega.{arith}
-use borrow.Author.Rules.{rules}
 use Rattle.time.proofs.Duration.from_micros.Goals as goal
 
 pub returns : goal.returns

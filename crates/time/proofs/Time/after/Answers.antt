@@ -1,7 +1,6 @@
 -- `time::Time::after` meets its contract: the sum is in range, so it is what `checked_add` answers. Assumes nothing.
 use Rattle.time.proofs.Laws.{after-added}
 use native.Mathlib.Omega.{arith}
-use borrow.Author.Rules.{rules}
 use Rattle.time.proofs.Time.after.Goals as goal
 
 pub returns-in-At : goal.returns-in-At

@@ -2,7 +2,6 @@
 -- where the seconds with the carry have more than 64. Assumes nothing.
 use Rattle.time.proofs.Laws.{is-added, not-added}
 use native.Mathlib.Omega.{arith}
-use borrow.Author.Rules.{rules}
 use Rattle.time.proofs.Time.checked_add.Goals as goal
 
 pub returns-then-high-d : goal.returns-then-high-d

@@ -1,7 +1,6 @@
 -- `time::Time::max` meets its contract: its test is that of `later`. Assumes nothing.
 use mathlib.Core.Path.{sym, ◌∙◌}
 use Rattle.time.specs.Raw.{later}
-use borrow.Author.Rules.{rules}
 use Rattle.time.proofs.Time.max.Goals as goal
 
 pub returns-then-earlier : goal.returns-then-earlier

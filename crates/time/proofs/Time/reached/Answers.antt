@@ -3,7 +3,6 @@ use mathlib.Core.Path.{◌∙◌, ap}
 use mathlib.Core.Bool.{not}
 use Rattle.time.specs.Raw.{raw}
 use Rattle.time.proofs.Laws.{not-ltb}
-use borrow.Author.Rules.{rules}
 use Rattle.time.proofs.Time.reached.Goals as goal
 
 pub returns : goal.returns

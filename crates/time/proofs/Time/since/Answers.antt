@@ -3,7 +3,6 @@
 use Rattle.time.proofs.Laws.{tested, refused, seconds-le, seconds-lt, is-since, no-since}
 use native.Mathlib.Nat.{le_of_lt}
 use native.Mathlib.Omega.{arith}
-use borrow.Author.Rules.{rules}
 use Rattle.time.proofs.Time.since.Goals as goal
 
 pub returns-then-earlier : goal.returns-then-earlier
