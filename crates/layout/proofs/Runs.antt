@@ -9,7 +9,7 @@ use native.Mathlib.Omega.{arith}
 use lib.ListN.{length, get_or, set, take}
 use lib.Seq.{take_all, take-suc, take-suc-set}
 use Rattle.cell.specs.Cell.{mapi}
-use Rattle.cell.proofs.Partly.{partly, partly-all}
+use Rattle.cell.proofs.Partly.{partly, partly-turn, partly-all}
 use Rattle.layout.specs.Layout.{word, bytes, row, row_bytes}
 use Rattle.layout.proofs.Widths.{bytes-split}
 
@@ -18,6 +18,11 @@ use Rattle.layout.proofs.Widths.{bytes-split}
 -- the list after i turns of a loop that reads a row
 abbrev pub filled : ℕ → ℕ → List ℕ → ℕ → List ℕ → List ℕ
 filled w place s = partly (λ k x. word w s (place + w * k))
+
+-- one turn more
+pub filled-turn : (w place : ℕ) (s : List ℕ) (i : ℕ) (xs ys : List ℕ) (v : ℕ) → ys ≡ filled w place s i xs → v ≡ word w s (place + w * i)
+    → set ys i v ≡ filled w place s (i + 1) xs
+filled-turn w place s i xs ys v e d = partly-turn (λ k x. word w s (place + w * k)) i xs ys v e d
 
 mapi-row : (w place : ℕ) (s : List ℕ) (i : ℕ) (xs : List ℕ)
     → mapi (λ k x. word w s (place + w * k)) i xs ≡ row (length xs) w (place + w * i) s

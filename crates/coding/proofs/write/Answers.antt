@@ -26,17 +26,16 @@ put_words-requires c =
 pub returns : goal.returns
 unfolding encoded rows_of
 returns c =
-    let l = c.put_words.new.0 in
-    let whole : length l ≤ 1042 = omega (arith, same_length c, c.requires) in
-    let good = c.well-formed in
+    let l = c.put_words.new.s in
+    let whole : length l ≤ 1042 = omega arith in
     let s = c.args.flash in
     let latch : length s.registers.latch ≡ 128 = search rules in
     let sensed : length s.sensed ≡ 4 = search rules in
     let indices : length s.indices ≡ 384 = search rules in
-    let m = c.put_bytes.new.0 in
-    let n = c.put_bytes-2.new.0 in
+    let m = c.put_bytes.new.s in
+    let n = c.put_bytes-2.new.s in
     let e =
-    row-after 1 142 128 270 c.put_scalars.new.0 m s.registers.latch _ _ refl latch refl c.put_bytes.ensures c.put_scalars.ensures in
+    row-after 1 142 128 270 c.put_scalars.new.record m s.registers.latch _ _ refl latch refl c.put_bytes.ensures c.put_scalars.ensures in
     let f = row-after 1 270 4 274 m n s.sensed _ _ refl sensed refl c.put_bytes-2.ensures e in
     let g = row-after 2 274 384 1042 n l s.indices _ _ refl indices refl c.put_words.ensures f in
     sym (take_all 1042 l whole) ∙ g ∙ simp (append_assoc, append-nil)

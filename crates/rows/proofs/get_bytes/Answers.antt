@@ -3,9 +3,9 @@
 use lib.ListN.{length, length-set}
 use Prim.Native.Nat.{◌+◌, ◌*◌, ◌≤◌, ◌-◌}
 use mathlib.Core.Path.{◌≡◌, refl, sym, ◌∙◌}
-use Rattle.cell.proofs.Partly.{partly-turn}
+use Rattle.cell.specs.Cell.{at}
 use Rattle.layout.proofs.Widths.{word-one}
-use Rattle.layout.proofs.Runs.{filled, filled-all}
+use Rattle.layout.proofs.Runs.{filled, filled-turn, filled-all}
 use native.Mathlib.Omega.{arith}
 use Rattle.rows.proofs.get_bytes.Goals as goal
 
@@ -29,7 +29,7 @@ loop-i-smaller c = omega arith
 
 pub loop-i-preserved : goal.loop-i-preserved
 loop-i-preserved c =
-    let x = c.args in let l = c.loop-i in let e : x.at + 1 * l.i ≡ x.at + l.i = omega arith in (omega arith, simp length-set l.invariant.1, partly-turn _ l.i _ _ _ l.invariant.2 (rw e (sym (word-one x.s.now (x.at + l.i)))))
+    let x = c.args in let l = c.loop-i in let e : x.at + 1 * l.i ≡ x.at + l.i = omega arith in (omega arith, simp length-set l.invariant.1, filled-turn 1 x.at x.s.now l.i x.out.now l.out (at x.s.now (x.at + l.i)) l.invariant.2 (rw e (sym (word-one x.s.now (x.at + l.i)))))
 
 pub shape_of-out : goal.shape_of-out
 shape_of-out c = c.loop-i.invariant.1

@@ -3,8 +3,7 @@
 use lib.ListN.{length, length-set}
 use Prim.Native.Nat.{◌≤◌, ◌-◌}
 use mathlib.Core.Path.{◌≡◌, refl, ◌∙◌}
-use Rattle.cell.proofs.Partly.{partly-turn}
-use Rattle.layout.proofs.Runs.{filled, filled-all}
+use Rattle.layout.proofs.Runs.{filled, filled-turn, filled-all}
 use native.Mathlib.Omega.{arith}
 use Rattle.rows.proofs.get_halves.Goals as goal
 
@@ -33,7 +32,8 @@ pub loop-i-smaller : goal.loop-i-smaller
 loop-i-smaller c = omega arith
 
 pub loop-i-preserved : goal.loop-i-preserved
-loop-i-preserved c = let l = c.loop-i in (omega arith, simp length-set l.invariant.1, partly-turn _ l.i _ _ _ l.invariant.2 c.get64.ensures)
+loop-i-preserved c =
+    let x = c.args in let l = c.loop-i in (omega arith, simp length-set l.invariant.1, filled-turn 8 x.at x.s.now l.i x.out.now l.out c.get64.result l.invariant.2 c.get64.ensures)
 
 pub shape_of-out : goal.shape_of-out
 shape_of-out c = c.loop-i.invariant.1

@@ -35,7 +35,7 @@ loop-i-smaller c = omega arith
 
 pub loop-i-preserved : goal.loop-i-preserved
 loop-i-preserved c =
-    let x = c.args in let l = c.loop-i in (omega arith, omega arith, more 2 x.at x.s.now x.v.now l.s c.put16.new.0 l.i (x.at + 2 * (l.i + 1)) (x.at + 2 * l.i) (omega arith) (omega arith) c.put16.ensures l.invariant.2)
+    let x = c.args in let l = c.loop-i in (omega arith, omega arith, more 2 x.at x.s.now x.v.now l.s c.put16.new.s l.i (x.at + 2 * (l.i + 1)) (x.at + 2 * l.i) (omega arith) (omega arith) c.put16.ensures l.invariant.2)
 
 pub shape_of-s : goal.shape_of-s
 shape_of-s c = c.loop-i.invariant.1

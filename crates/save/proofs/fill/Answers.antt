@@ -31,6 +31,6 @@ returns c = let x = c.args in
     let k : Chip = record { flash = x.flash; array = x.array.now; charges = x.charges.now } in
     let p = c.page_at.result in
     let m = p + 256 + 18 * option_byte x.flash.registers.verify_pending in
-    let l = c.put_state.new.0 in
-    let whole : length l ≤ m = omega (arith, same_length c, c.requires.5, c.page_at.ensures) in
-    filled k (0 + 1 * length x.array.now) 49152 x.count (page_at x.count) p m x.out.now c.put_bytes.new.0 c.put32.new.0 c.put_pages.new.0 l c.put_bytes.ensures (omega arith) c.put32.ensures c.requires.4 c.put_pages.ensures c.page_at.ensures c.put_state.ensures whole
+    let l = c.put_state.new.out in
+    let whole : length l ≤ m = omega (arith, c.requires.5, c.page_at.ensures) in
+    filled k (0 + 1 * length x.array.now) 49152 x.count (page_at x.count) p m x.out.now c.put_bytes.new.s c.put32.new.s c.put_pages.new.out l c.put_bytes.ensures (omega arith) c.put32.ensures c.requires.4 c.put_pages.ensures c.page_at.ensures c.put_state.ensures whole

@@ -1,9 +1,9 @@
 -- `save::put_latched` meets its contract: the latch's row, and the page's two bytes after it.
 -- Assumes nothing.
-use mathlib.Core.Path.{refl, sym, ◌∙◌}
+use mathlib.Core.Path.{◌≡◌, refl, ◌∙◌}
 use mathlib.Core.List.{append_assoc}
 use Prim.Native.Nat.{◌+◌}
-use lib.ListN.{take}
+use lib.ListN.{length, take}
 use Rattle.layout.specs.Layout.{bytes, row_bytes}
 use Rattle.layout.proofs.Runs.{row-after}
 use Rattle.snapshot.specs.Snapshot.{state_fields}
@@ -13,7 +13,7 @@ use borrow.Author.Rules.{rules}
 use Rattle.save.proofs.put_latched.Goals as goal
 
 pub put_bytes-requires : goal.put_bytes-requires
-put_bytes-requires c = omega (arith, slice-aggregate-put-bytes c)
+put_bytes-requires c = let long : length c.args.flash.registers.latch ≡ 128 = search rules in omega arith
 
 pub returns : goal.returns
 unfolding state_fields
@@ -22,7 +22,8 @@ returns c =
     let k = x.at in
     let s = x.out.now in
     let r = x.flash.registers in
-    let m = c.put_bytes.new.0 in
-    let e = row-after 1 k 128 (k + 128) s m r.latch r.latch _ refl (sym (slice-aggregate-put-bytes c)) refl c.put_bytes.ensures refl in
+    let long : length r.latch ≡ 128 = search rules in
+    let m = c.put_bytes.new.s in
+    let e = row-after 1 k 128 (k + 128) s m r.latch r.latch _ refl long refl c.put_bytes.ensures refl in
     let f = after (k + 128) (k + 128 + 2) (k + 130) m _ _ (bytes 2 r.page) c.put16.ensures e (omega arith) in
     rw latched-row (f ∙ append_assoc (take k s) (row_bytes 1 r.latch) (bytes 2 r.page))

@@ -46,10 +46,6 @@ offset_bounds-charges-from c = omega arith
 pub slice_bounds-put_halves-count : goal.slice_bounds-put_halves-count
 slice_bounds-put_halves-count c = omega arith
 
--- LOST: slice-bounds-put-halves-start = omega arith
-
--- LOST: slice-bounds-put-halves-end = omega arith
-
 pub put_halves-requires : goal.put_halves-requires
 put_halves-requires c = simp (length-take, length-drop) (omega (arith, page_inside c.loop-slot.slot c.args.count (omega arith)))
 
@@ -62,7 +58,7 @@ loop-slot-smaller c = omega arith
 pub loop-slot-preserved : goal.loop-slot-preserved
 loop-slot-preserved c = let l = c.loop-slot in
     let x = c.args in
-    (omega arith, omega arith, omega arith, pages-more x.indices.now x.charges.now l.slot c.page_at.result c.page_at-in-loop-slot.result _ l.out c.put16.new.0 c.put_halves.new.0 (take pages_place x.out.now) c.page_at.ensures c.page_at-in-loop-slot.ensures (c.owners-owners.ensures l.slot (omega arith)) (omega arith) c.put16.ensures c.put_halves.ensures l.invariant.3)
+    (omega arith, omega arith, omega arith, pages-more x.indices.now x.charges.now l.slot c.page_at.result c.page_at-in-loop-slot.result _ l.out c.put16.new.s c.put_halves.new.s (take pages_place x.out.now) c.page_at.ensures c.page_at-in-loop-slot.ensures (c.owners-owners.ensures l.slot (omega arith)) (omega arith) c.put16.ensures c.put_halves.ensures l.invariant.3)
 
 pub shape_of-out : goal.shape_of-out
 shape_of-out c = c.loop-slot.invariant.2

@@ -37,11 +37,11 @@ returns-in-Sense c =
     let x = c.args in
     let k = x.at in
     let s = x.out.now in
-    let v = c.sense-1.given.0 in
-    let t = v.1.0 in
-    let m = c.put16.new.0 in
-    let n = c.put_halves.new.0 in
+    let a = c.in-Sense.address in
+    let t = c.in-Sense.ready in
+    let m = c.put16.new.s in
+    let n = c.put_halves.new.s in
     let p = put_one s k 1 (omega arith) (omega arith) in
-    let q = after (k + 1) (k + 1 + 2) (k + 3) (set s k 1) m _ (bytes 2 v.0) c.put16.ensures p (omega arith) in
+    let q = after (k + 1) (k + 1 + 2) (k + 3) (set s k 1) m _ (bytes 2 a) c.put16.ensures p (omega arith) in
     let r = after (k + 3) (k + 3 + 16) (k + 19) m n _ (row_bytes 8 (t.1 ∷ t.0 ∷ [])) c.put_halves.ensures q (omega arith) in
-    rw (c.in-Sense.is, sense-row v.0 t (omega (arith, c.in-Sense.known_told-1-own.given))) (omega arith, r ∙ simp append_assoc)
+    rw (c.in-Sense.is, sense-row a t (omega (arith, c.in-Sense.known_told-1-own.given))) (omega arith, r ∙ simp append_assoc)

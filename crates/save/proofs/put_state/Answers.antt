@@ -1,8 +1,9 @@
 -- `save::put_state` meets its contract: the runs and the sensed bytes, each written after what stands already.
 -- Assumes nothing.
-use mathlib.Core.Path.{refl, sym, ◌∙◌}
+use mathlib.Core.Path.{◌≡◌, refl, ◌∙◌}
 use mathlib.Core.List.{append_assoc}
 use Prim.Native.Nat.{◌+◌, ◌*◌}
+use lib.ListN.{length}
 use Rattle.layout.specs.Layout.{option_byte}
 use Rattle.layout.proofs.Runs.{row-after}
 use Rattle.snapshot.specs.Snapshot.{latched, supplies, instants, pending, state_fields}
@@ -11,12 +12,8 @@ use native.Mathlib.Omega.{arith}
 use borrow.Author.Rules.{rules}
 use Rattle.save.proofs.put_state.Goals as goal
 
-pub slice_bounds-put_bytes-end : goal.slice_bounds-put_bytes-end
-slice_bounds-put_bytes-end c =
-    search (rules, c.well-formed.1.1.0.1.1.1.1)
-
 pub put_bytes-requires : goal.put_bytes-requires
-put_bytes-requires c = omega (arith, slice-aggregate-put-bytes c)
+put_bytes-requires c = let long : length c.args.flash.sensed ≡ 4 = search rules in omega arith
 
 pub returns : goal.returns
 unfolding state_fields
@@ -25,18 +22,19 @@ returns c =
     let k = x.at in
     let v = state_fields x.flash in
     let e = c.put_pending-end.result in
-    let l₁ = c.put_controls.new.0 in
-    let l₂ = c.put_latched.new.0 in
-    let l₃ = c.put_supplies.new.0 in
-    let l₄ = c.put_instants.new.0 in
-    let l₅ = c.put_pending-end.new.0 in
+    let l₁ = c.put_controls.new.out in
+    let l₂ = c.put_latched.new.out in
+    let l₃ = c.put_supplies.new.out in
+    let l₄ = c.put_instants.new.out in
+    let l₅ = c.put_pending-end.new.out in
     let p₂ = after (k + 5) (k + 5 + 130) (k + 135) l₁ l₂ _ (latched.write v.1.0) c.put_latched.ensures c.put_controls.ensures (omega arith) in
     let p₃ = after (k + 135) (k + 135 + 4) (k + 139) l₂ l₃ _ (supplies.write v.1.1.0) c.put_supplies.ensures p₂ (omega arith) in
     let p₄ = after (k + 139) (k + 139 + 112) (k + 251) l₃ l₄ _ (instants.write v.1.1.1.0) c.put_instants.ensures p₃ (omega arith) in
     let p₅ = after (k + 251) e e l₄ l₅ _ (pending.write v.1.1.1.1.0) c.put_pending-end.ensures.1 p₄ refl in
     let sensed = x.flash.sensed in
+    let long : length sensed ≡ 4 = search rules in
     let m = k + 256 + 18 * option_byte x.flash.registers.verify_pending in
     let p₆ =
-    row-after 1 e 4 m l₅ c.put_bytes.new.0 sensed sensed _ refl (sym (slice-aggregate-put-bytes c))
+    row-after 1 e 4 m l₅ c.put_bytes.new.s sensed sensed _ refl long
     (omega (arith, c.put_pending-end.ensures.0)) c.put_bytes.ensures p₅ in
     rw (state-row v) (p₆ ∙ simp append_assoc)

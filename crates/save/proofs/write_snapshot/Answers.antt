@@ -6,7 +6,6 @@ use lib.Seq.{length-take-le}
 use lib.ListN.{length}
 use mathlib.Core.Bool.{true, false}
 use mathlib.Core.Path.{◌≡◌, sym, ◌∙◌}
-use borrow.Author.Tests.{not-true, not-false}
 use Rattle.lent.specs.Memory.{Memory, misfits}
 use Rattle.lent.proofs.Fitted.{sizes-fit, fitted}
 use Rattle.save.proofs.Told.{length-written, told-2, told-3, told-8, told-done}
@@ -21,7 +20,7 @@ pub accepts-requires : goal.accepts-requires
 accepts-requires c = let a = c.args in (sizes-fit (length a.«record».now) (length a.array.now) (length a.charges.now) (sym c.sizes_misfit.ensures ∙ c.if-sizes_misfit.false)).record_long
 
 pub returns-then-not-accepts : goal.returns-then-not-accepts
-returns-then-not-accepts c = told-3 _ _ (sym c.sizes_misfit.ensures ∙ c.if-sizes_misfit.false) (sym c.accepts.ensures ∙ not-true _ c.if-not-accepts.true)
+returns-then-not-accepts c = told-3 _ _ (sym c.sizes_misfit.ensures ∙ c.if-sizes_misfit.false) (sym c.accepts.ensures ∙ c.if-not-accepts.true)
 
 pub read-flash-requires : goal.read-flash-requires
 read-flash-requires c = let a = c.args in (sizes-fit (length a.«record».now) (length a.array.now) (length a.charges.now) (sym c.sizes_misfit.ensures ∙ c.if-sizes_misfit.false)).record_long
@@ -30,7 +29,7 @@ pub returns-then-out-length : goal.returns-then-out-length
 returns-then-out-length c = let x = c.args in
     let m : Memory = record { bytes = x.«record».now; array = x.array.now; charges = x.charges.now } in
     let a : misfits m ≡ false = sym c.sizes_misfit.ensures ∙ c.if-sizes_misfit.false in
-    let b : accepted m.bytes ≡ true = sym c.accepts.ensures ∙ not-false _ c.if-not-accepts.false in
+    let b : accepted m.bytes ≡ true = sym c.accepts.ensures ∙ c.if-not-accepts.false in
     let n = c.snapshot_length-length.result in
     let e = length-written m c.read-flash.result c.opened-count.result n (sizes-fit _ _ _ a) (λ k. (c.shared_slice_known-1.given k).fits) c.read-flash.ensures c.opened-count.ensures.0 c.snapshot_length-length.ensures in
     told-8 m x.out.now a b n e c.if-out-length.true
@@ -39,14 +38,14 @@ pub fill-requires : goal.fill-requires
 fill-requires c = let x = c.args in
     let m : Memory = record { bytes = x.«record».now; array = x.array.now; charges = x.charges.now } in
     let z = sizes-fit _ _ _ (sym c.sizes_misfit.ensures ∙ c.if-sizes_misfit.false) in
-    let f = fitted m z (sym c.accepts.ensures ∙ not-false _ c.if-not-accepts.false) in
+    let f = fitted m z (sym c.accepts.ensures ∙ c.if-not-accepts.false) in
     (f.array_long, f.charges_long, rw c.read-flash.ensures f.index_long, rw c.read-flash.ensures f.slots, c.opened-count.ensures.0, length-take-le (c.snapshot_length-length.result - 0) x.out.now (omega arith) ∙ omega arith)
 
 pub returns : goal.returns
 returns c = let x = c.args in
     let m : Memory = record { bytes = x.«record».now; array = x.array.now; charges = x.charges.now } in
     let a : misfits m ≡ false = sym c.sizes_misfit.ensures ∙ c.if-sizes_misfit.false in
-    let b : accepted m.bytes ≡ true = sym c.accepts.ensures ∙ not-false _ c.if-not-accepts.false in
+    let b : accepted m.bytes ≡ true = sym c.accepts.ensures ∙ c.if-not-accepts.false in
     let n = c.snapshot_length-length.result in
     let e = length-written m c.read-flash.result c.opened-count.result n (sizes-fit _ _ _ a) (λ k. (c.shared_slice_known-1.given k).fits) c.read-flash.ensures c.opened-count.ensures.0 c.snapshot_length-length.ensures in
-    told-done m x.out.now a b n e c.if-out-length.false c.fill.new.0 (rw c.read-flash.ensures at c.fill.ensures)
+    told-done m x.out.now a b n e c.if-out-length.false c.fill.new.out (rw c.read-flash.ensures at c.fill.ensures)

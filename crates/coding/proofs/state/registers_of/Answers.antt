@@ -10,22 +10,22 @@ unfolding registers_of
 returns c =
     let x = c.args in
     λ i. record {
-      control = at x.t1 0;
-      error = flag_of (at x.t1 1);
-      erase = at x.t1 2;
-      enabled = flag_of (at x.t1 3);
-      power_down_disabled = flag_of (at x.t1 4);
+      control = at x.head 0;
+      error = flag_of (at x.head 1);
+      erase = at x.head 2;
+      enabled = flag_of (at x.head 3);
+      power_down_disabled = flag_of (at x.head 4);
       latch = x.latch;
-      page = at x.t2 0;
+      page = at x.addresses 0;
       supply = c.supply_of-supply.ensures i;
-      oscillator = flag_of (at x.t1 6);
-      mode = c.Mode-of.ensures i;
-      «module» = flag_of (at x.t1 8);
-      ready = time_of x.t3 0;
-      swe_ready = time_of x.t3 2;
-      program_ready = time_of x.t3 4;
-      erase_ready = time_of x.t3 6;
-      recovery = time_of x.t3 8;
-      verify_ready = time_of x.t3 10;
+      oscillator = flag_of (at x.head 6);
+      mode = c.mode_of-mode.ensures i;
+      «module» = flag_of (at x.head 8);
+      ready = time_of x.halves 0;
+      swe_ready = time_of x.halves 2;
+      program_ready = time_of x.halves 4;
+      erase_ready = time_of x.halves 6;
+      recovery = time_of x.halves 8;
+      verify_ready = time_of x.halves 10;
       verify_pending = c.pending_of-pending.ensures i;
     }

@@ -15,4 +15,4 @@ pub returns-in-Read16 : goal.returns-in-Read16
 returns-in-Read16 c = rw c.in-Read16.is
 
 pub returns-in-Environment : goal.returns-in-Environment
-returns-in-Environment c = rw (c.in-Environment.is, c.Mode-of.ensures)
+returns-in-Environment c = rw (c.in-Environment.is, c.mode_of.ensures)

@@ -1,7 +1,6 @@
 -- `lent::making::copy` meets its contract. The loop's invariant: the bytes passed are copied, and the others are as they were.
 -- Assumes nothing.
-use Rattle.lent.proofs.Copied.{copied, copied_all}
-use Rattle.cell.proofs.Partly.{partly-turn}
+use Rattle.lent.proofs.Copied.{copied, copied_turn, copied_all}
 use lib.ListN.{length, length-set}
 use Prim.Native.Nat.{◌≤◌, ◌-◌}
 use mathlib.Core.Path.{◌≡◌, refl, ◌∙◌}
@@ -25,8 +24,9 @@ loop-i-smaller c = omega arith
 
 pub loop-i-preserved : goal.loop-i-preserved
 loop-i-preserved c =
+    let x = c.args in
     let l = c.loop-i in
-    (omega arith, simp length-set l.invariant.1, partly-turn _ l.i _ _ _ l.invariant.2 refl)
+    (omega arith, simp length-set l.invariant.1, copied_turn x.from.now l.i x.to.now l.to l.invariant.2)
 
 pub shape_of-to : goal.shape_of-to
 shape_of-to c = c.loop-i.invariant.1

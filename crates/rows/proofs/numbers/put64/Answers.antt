@@ -8,4 +8,4 @@ use Rattle.rows.proofs.numbers.put64.Goals as goal
 
 pub returns : goal.returns
 returns c =
-    let x = c.args in put_two 4 4 x.at x.v (x.v % 4294967296) (x.v / 4294967296) x.s.now c.put32.new.0 c.put32-2.new.0 c.put32.ensures c.put32-2.ensures (omega arith) (omega arith)
+    let x = c.args in put_two 4 4 x.at x.v (x.v % 4294967296) (x.v / 4294967296) x.s.now c.put32.new.s c.put32-2.new.s c.put32.ensures c.put32-2.ensures (omega arith) (omega arith)
