@@ -2,7 +2,6 @@
 use mathlib.Core.Path.{sym, ◌∙◌}
 use borrow.Author.Tests.{lt-ltb, le-ltb}
 use Rattle.fields.specs.Fields.{address_in}
-use borrow.Author.Rules.{rules}
 use Rattle.fields.proofs.address_in.Goals as goal
 
 pub returns-then-n-limit : goal.returns-then-n-limit

@@ -2,7 +2,6 @@
 use mathlib.Core.Path.{sym, ◌∙◌}
 use borrow.Author.Tests.{lt-ltb, le-ltb}
 use Rattle.fields.specs.Fields.{bit_in}
-use borrow.Author.Rules.{rules}
 use Rattle.fields.proofs.bit_in.Goals as goal
 
 pub returns-then-n-lt8 : goal.returns-then-n-lt8

@@ -1,5 +1,4 @@
 -- `fields::bits_of` meets its contract: each arm knows what the names make. Assumes nothing.
-use borrow.Author.Rules.{rules}
 use Rattle.fields.proofs.bits_of.Goals as goal
 
 pub returns-in-Is : goal.returns-in-Is

@@ -3,7 +3,6 @@ use mathlib.Core.Path.{sym, ◌∙◌}
 use native.Mathlib.Omega.{arith}
 use Rattle.digits.proofs.Laws.{hex-below}
 use Rattle.fields.specs.Fields.{byte_in}
-use borrow.Author.Rules.{rules}
 use Rattle.fields.proofs.byte_in.Goals as goal
 
 pub overflow_cast-result : goal.overflow_cast-result

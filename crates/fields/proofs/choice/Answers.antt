@@ -1,6 +1,5 @@
 -- `fields::choice` meets its contract: its test is the definition's. Assumes nothing.
 use borrow.Author.Tests.{lt-ltb, le-ltb}
-use borrow.Author.Rules.{rules}
 use Rattle.fields.proofs.choice.Goals as goal
 
 pub returns-then-place-count : goal.returns-then-place-count

@@ -1,6 +1,5 @@
 -- `fields::mode_in` meets its contract, by what its calls answer. Assumes nothing.
 use Rattle.fields.specs.Fields.{mode_in}
-use borrow.Author.Rules.{rules}
 use Rattle.fields.proofs.mode_in.Goals as goal
 
 pub returns : goal.returns

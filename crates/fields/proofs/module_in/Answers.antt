@@ -1,6 +1,5 @@
 -- `fields::module_in` meets its contract, by what its calls answer. Assumes nothing.
 use Rattle.fields.specs.Fields.{module_in}
-use borrow.Author.Rules.{rules}
 use Rattle.fields.proofs.module_in.Goals as goal
 
 pub returns : goal.returns

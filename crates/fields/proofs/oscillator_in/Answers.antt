@@ -1,6 +1,5 @@
 -- `fields::oscillator_in` meets its contract, by what its calls answer. Assumes nothing.
 use Rattle.fields.specs.Fields.{oscillator_in}
-use borrow.Author.Rules.{rules}
 use Rattle.fields.proofs.oscillator_in.Goals as goal
 
 pub returns : goal.returns

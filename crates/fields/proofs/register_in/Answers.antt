@@ -4,7 +4,6 @@ use native.Mathlib.Omega.{arith}
 use borrow.Author.Tests.{eq-eqb, ne_eqb}
 use Rattle.digits.proofs.Laws.{hex-below}
 use Rattle.fields.specs.Fields.{register_in}
-use borrow.Author.Rules.{rules}
 use Rattle.fields.proofs.register_in.Goals as goal
 
 pub returns-then-named-ne0 : goal.returns-then-named-ne0

@@ -1,5 +1,4 @@
 -- `moments::at_length` meets its contract: each arm knows the variant, by which the definition computes. Assumes nothing.
-use borrow.Author.Rules.{rules}
 use Rattle.moments.proofs.at_length.Goals as goal
 
 pub returns-in-Is : goal.returns-in-Is

@@ -1,5 +1,4 @@
 -- `moments::exactly` meets its contract: each arm knows the variant, by which the definition computes. Assumes nothing.
-use borrow.Author.Rules.{rules}
 use Rattle.moments.proofs.exactly.Goals as goal
 
 pub returns-in-Is-f : goal.returns-in-Is-f

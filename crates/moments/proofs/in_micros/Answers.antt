@@ -1,7 +1,6 @@
 -- `moments::in_micros` meets its contract: the decimals are below a second, so that the seconds stay as they are. Assumes nothing.
 use Rattle.moments.proofs.Laws.{scaled-by, is-in-micros}
 use native.Mathlib.Omega.{arith}
-use borrow.Author.Rules.{rules}
 use Rattle.moments.proofs.in_micros.Goals as goal
 
 pub overflow_mul-n : goal.overflow_mul-n

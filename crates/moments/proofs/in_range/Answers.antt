@@ -1,5 +1,4 @@
 -- `moments::in_range` meets its contract: each arm knows the variant, by which the definition computes. Assumes nothing.
-use borrow.Author.Rules.{rules}
 use Rattle.moments.proofs.in_range.Goals as goal
 
 pub returns-in-At : goal.returns-in-At

@@ -1,6 +1,5 @@
 -- `moments::is_relative` meets its contract: the word's first byte is the stretch's. Assumes nothing.
 use Rattle.moments.proofs.Words.{plus-first, none_first}
-use borrow.Author.Rules.{rules}
 use Rattle.moments.proofs.is_relative.Goals as goal
 
 pub returns-then-from-to : goal.returns-then-from-to

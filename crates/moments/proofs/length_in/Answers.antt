@@ -1,6 +1,5 @@
 -- `moments::length_in` meets its contract: where a byte is found says which form the word has. Assumes nothing.
 use Rattle.moments.proofs.Words.{is-exact, has-decimals, is_whole}
-use borrow.Author.Rules.{rules}
 use Rattle.moments.proofs.length_in.Goals as goal
 
 pub returns-then-colon-to : goal.returns-then-colon-to

@@ -1,6 +1,5 @@
 -- `moments::micros_of` meets its contract: its test is the definition's. Assumes nothing.
 use Rattle.moments.proofs.Laws.{is-exact-of}
-use borrow.Author.Rules.{rules}
 use Rattle.moments.proofs.micros_of.Goals as goal
 
 pub returns-then-n-part : goal.returns-then-n-part

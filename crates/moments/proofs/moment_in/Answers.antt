@@ -2,7 +2,6 @@
 use mathlib.Core.Path.{sym, ◌∙◌}
 use Rattle.moments.proofs.Words.{relative-more, is-after, is_at}
 use native.Mathlib.Omega.{arith}
-use borrow.Author.Rules.{rules}
 use Rattle.moments.proofs.moment_in.Goals as goal
 
 pub length_in-requires : goal.length_in-requires

@@ -1,5 +1,4 @@
 -- `moments::part_in` meets its contract, by what its calls ensure. Assumes nothing.
-use borrow.Author.Rules.{rules}
 use Rattle.moments.proofs.part_in.Goals as goal
 
 pub returns : goal.returns

@@ -1,6 +1,5 @@
 -- `moments::with_decimals` meets its contract: there are as many decimals as bytes in the stretch. Assumes nothing.
 use Rattle.moments.proofs.Words.{too_many, few, part-of-stretch}
-use borrow.Author.Rules.{rules}
 use Rattle.moments.proofs.with_decimals.Goals as goal
 
 pub returns-then-to-from-gt6 : goal.returns-then-to-from-gt6

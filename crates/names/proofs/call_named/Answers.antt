@@ -1,6 +1,5 @@
 -- `names::call_named` meets its contract: the table's row is read at the place of the name. Assumes nothing.
 use native.Mathlib.Omega.{arith}
-use borrow.Author.Rules.{rules}
 use Rattle.words.specs.Text.{split, split_before}
 use Rattle.names.specs.Names.{calls, call_named}
 use Rattle.names.specs.declared.Kind.TheVariants.{Unknown}

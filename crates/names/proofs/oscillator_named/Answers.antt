@@ -1,6 +1,5 @@
 -- `names::oscillator_named` meets its contract: the names in one text are those of the list. Assumes nothing.
 use Rattle.words.specs.Text.{split, split_before}
-use borrow.Author.Rules.{rules}
 use Rattle.names.proofs.oscillator_named.Goals as goal
 
 pub returns : goal.returns

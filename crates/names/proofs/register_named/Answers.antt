@@ -1,6 +1,5 @@
 -- `names::register_named` meets its contract: the table's row is read at the place of the name. Assumes nothing.
 use native.Mathlib.Omega.{arith}
-use borrow.Author.Rules.{rules}
 use Rattle.words.specs.Text.{split, split_before}
 use Rattle.names.specs.Names.{registers, register_named}
 use Rattle.names.proofs.Tables.{names, place-within, table-read}

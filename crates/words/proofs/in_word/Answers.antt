@@ -1,5 +1,4 @@
 -- `words::in_word` meets its contract, by what `blank` answers. Assumes nothing.
-use borrow.Author.Rules.{rules}
 use Rattle.words.proofs.in_word.Goals as goal
 
 pub returns : goal.returns

@@ -1,13 +1,9 @@
 -- `words::past_blanks` meets its contract. The loop's invariant: from where it stands the run of blanks ends where it does from its
 -- start. Assumes nothing.
 use Prim.Native.Nat.{◌≤◌, ◌-◌}
-use mathlib.Core.Path.{◌≡◌, refl, sym, ◌∙◌}
-use native.Mathlib.Omega.{arith}
-use borrow.Author.Rules.{rules}
-use borrow.Author.Tests.{not-true, not-false}
+use mathlib.Core.Path.{◌≡◌}
 use lib.ListN.{length}
 use Rattle.words.specs.Words.{blank, past}
-use Rattle.words.proofs.Runs.{past_more, past-here, past_end}
 use Rattle.words.proofs.past_blanks.Given as goal
 
 abbrev pub invariant-loop-i : goal.invariant-loop-i

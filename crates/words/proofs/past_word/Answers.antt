@@ -1,12 +1,8 @@
 -- `words::past_word` meets its contract. The loop's invariant: from where it stands the word ends where it does from its
 -- start. Assumes nothing.
-use Prim.Native.Nat.{◌≤◌, ◌-◌}
-use mathlib.Core.Path.{◌≡◌, refl, sym, ◌∙◌}
+use mathlib.Core.Path.{refl, sym, ◌∙◌}
 use native.Mathlib.Omega.{arith}
-use borrow.Author.Rules.{rules}
-use borrow.Author.Tests.{not-true, not-false}
-use lib.ListN.{length}
-use Rattle.words.specs.Words.{in_word, past}
+use Rattle.words.specs.Words.{in_word}
 use Rattle.words.proofs.Runs.{past_more, past-here, past_end}
 use Rattle.words.proofs.past_word.Goals as goal
 
@@ -19,7 +15,7 @@ bounds-line-i c = omega arith
 pub returns-then-not-in_word : goal.returns-then-not-in_word
 returns-then-not-in_word c =
     let l = c.loop-i in
-    let t = sym c.in_word.ensures ∙ not-true _ c.if-not-in_word.true in
+    let t = sym c.in_word.ensures ∙ c.if-not-in_word.true in
     record { is = sym (past-here in_word _ l.i (omega arith) t) ∙ l.invariant.0; after = omega arith; inside = omega arith }
 
 pub overflow_add-i : goal.overflow_add-i
@@ -31,7 +27,7 @@ loop-i-smaller c = omega arith
 pub loop-i-preserved : goal.loop-i-preserved
 loop-i-preserved c =
     let l = c.loop-i in
-    let t = sym c.in_word.ensures ∙ not-false _ c.if-not-in_word.false in
+    let t = sym c.in_word.ensures ∙ c.if-not-in_word.false in
     (past_more in_word _ l.i (omega arith) t ∙ l.invariant.0, omega arith, omega arith)
 
 pub returns : goal.returns

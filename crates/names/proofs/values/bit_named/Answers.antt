@@ -1,7 +1,6 @@
 -- `names::values::bit_named` meets its contract: the registers are tested in the definition's order. Assumes nothing.
 use borrow.Author.Tests.{eq-eqb, ne_eqb}
 use Rattle.names.specs.Names.{bit_named}
-use borrow.Author.Rules.{rules}
 use Rattle.names.proofs.values.bit_named.Goals as goal
 
 pub returns-then-register-eq-FLMCR1 : goal.returns-then-register-eq-FLMCR1

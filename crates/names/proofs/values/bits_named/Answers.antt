@@ -1,11 +1,7 @@
 -- `names::values::bits_named` meets its contract. The loop's invariant: the sum so far with the parts left makes what all parts make.
 -- Assumes nothing.
-use Prim.Native.Nat.{◌≤◌, ◌<◌, ◌-◌}
-use mathlib.Core.Path.{◌≡◌, refl, sym, ◌∙◌}
-use borrow.Author.Rules.{rules}
-use Rattle.byte_search.specs.Search.{slice}
-use Rattle.words.specs.Text.{split}
-use Rattle.names.specs.Values.{bits_from, bits_named}
+use mathlib.Core.Path.{refl, sym, ◌∙◌}
+use Rattle.names.specs.Values.{bits_named}
 use Rattle.names.proofs.Sums.{bit-within, sum-not, sum_twice, sum-last, sum_more}
 use native.Mathlib.Omega.{arith}
 use Rattle.names.proofs.values.bits_named.Goals as goal

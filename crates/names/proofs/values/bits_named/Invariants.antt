@@ -1,13 +1,10 @@
 -- `names::values::bits_named` meets its contract. The loop's invariant: the sum so far with the parts left makes what all parts make.
 -- Assumes nothing.
 use Prim.Native.Nat.{◌≤◌, ◌<◌, ◌-◌}
-use mathlib.Core.Path.{◌≡◌, refl, sym, ◌∙◌}
-use borrow.Author.Rules.{rules}
+use mathlib.Core.Path.{◌≡◌}
 use Rattle.byte_search.specs.Search.{slice}
 use Rattle.words.specs.Text.{split}
 use Rattle.names.specs.Values.{bits_from, bits_named}
-use Rattle.names.proofs.Sums.{bit-within, sum-not, sum_twice, sum-last, sum_more}
-use native.Mathlib.Omega.{arith}
 use Rattle.names.proofs.values.bits_named.Given as goal
 
 abbrev pub invariant-loop-register : goal.invariant-loop-register

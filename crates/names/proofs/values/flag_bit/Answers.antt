@@ -1,6 +1,5 @@
 -- `names::values::flag_bit` meets its contract, by what `spells` answers. Assumes nothing.
 use mathlib.Core.Path.{sym, ◌∙◌}
-use borrow.Author.Rules.{rules}
 use Rattle.names.proofs.values.flag_bit.Goals as goal
 
 pub returns-then-spells : goal.returns-then-spells

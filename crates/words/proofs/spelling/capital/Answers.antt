@@ -1,5 +1,4 @@
 -- `words::spelling::capital` meets its contract: its tests are the definition's. Assumes nothing.
-use borrow.Author.Rules.{rules}
 use borrow.Author.Tests.{le-leb, lt-leb}
 use Rattle.words.proofs.spelling.capital.Goals as goal
 

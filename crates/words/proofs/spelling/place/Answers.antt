@@ -1,15 +1,10 @@
 -- `words::spelling::place` meets its contract. The loop's invariant: the names passed and the place among those left make the place
 -- among all. Assumes nothing.
-use Prim.Native.Nat.{◌+◌, ◌≤◌, ◌-◌}
-use mathlib.Core.Path.{◌≡◌}
 use native.Mathlib.Nat.{zero-add}
 use native.Mathlib.Omega.{arith}
-use borrow.Author.Rules.{rules}
-use lib.ListN.{length}
 use lib.Seq.{take-length}
 use Rattle.byte_search.specs.Search.{slice}
-use Rattle.words.specs.Text.{split, place_of}
-use Rattle.words.proofs.Places.{place_from, place_here, place-last, place-more}
+use Rattle.words.proofs.Places.{place_here, place-last, place-more}
 use Rattle.words.proofs.spelling.place.Goals as goal
 
 pub loop-from-init : goal.loop-from-init

@@ -2,14 +2,10 @@
 -- among all. Assumes nothing.
 use Prim.Native.Nat.{◌+◌, ◌≤◌, ◌-◌}
 use mathlib.Core.Path.{◌≡◌}
-use native.Mathlib.Nat.{zero-add}
-use native.Mathlib.Omega.{arith}
-use borrow.Author.Rules.{rules}
 use lib.ListN.{length}
-use lib.Seq.{take-length}
 use Rattle.byte_search.specs.Search.{slice}
 use Rattle.words.specs.Text.{split, place_of}
-use Rattle.words.proofs.Places.{place_from, place_here, place-last, place-more}
+use Rattle.words.proofs.Places.{place_from}
 use Rattle.words.proofs.spelling.place.Given as goal
 
 abbrev pub invariant-loop-from : goal.invariant-loop-from

@@ -1,14 +1,12 @@
 -- `words::spelling::spells` meets its contract. The loop's invariant: what is left of the bytes spells what is left of the name just
 -- where the whole spells the whole. Assumes nothing.
-use Prim.Native.Nat.{◌+◌, ◌≤◌, ◌-◌}
+use Prim.Native.Nat.{◌+◌}
 use mathlib.Core.Path.{◌≡◌, sym, ◌∙◌}
 use native.Mathlib.Nat.{add-zero, add_assoc}
 use native.Mathlib.Omega.{arith}
-use borrow.Author.Rules.{rules}
-use lib.ListN.{length, drop}
+use lib.ListN.{length}
 use lib.Seq.{length-slice}
 use Rattle.byte_search.specs.Search.{slice}
-use Rattle.words.specs.Text.{spells}
 use Rattle.words.proofs.Spelled.{spells-same, spells-other, spells-end, spells-length}
 use Rattle.words.proofs.spelling.spells.Goals as goal
 
