@@ -1,7 +1,7 @@
 // What the build scripts of `doqtarbu` and `replay` share: an archive of proved functions is found and linked.
 use std::{env, path::PathBuf, process};
 
-/// Links `libNAME.a`, which `rt staticlib NAME` makes at the repository's root, or the one in the folder `FLASH_LIB_DIR`.
+/// Links `target/staticlib/libNAME.a`, which `./archives NAME` makes at the repository's root, or the one in the folder `FLASH_LIB_DIR`.
 fn link(name: &str) {
     println!("cargo:rerun-if-env-changed=FLASH_LIB_DIR");
     let folder = match env::var_os("FLASH_LIB_DIR") {
@@ -13,7 +13,7 @@ fn link(name: &str) {
     println!("cargo:rerun-if-changed={}", archive.display());
     if !archive.is_file() {
         eprintln!(
-            "{} is missing: run `rt staticlib {name}` at the repository's root, \
+            "{} is missing: run `./archives {name}` at the repository's root, \
              or set FLASH_LIB_DIR to the folder that has lib{name}.a",
             archive.display()
         );

@@ -1,4 +1,4 @@
-//! Links the archive that `rt staticlib host` makes at the repository's root.
+//! Links the archive that `./archives host` makes at the repository's root.
 include!("../archive.rs");
 
 fn main() {

@@ -1,4 +1,4 @@
-//! Links the archive that `rt staticlib replaying` makes at the repository's root.
+//! Links the archive that `./archives replaying` makes at the repository's root.
 include!("../archive.rs");
 
 fn main() {

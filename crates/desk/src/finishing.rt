@@ -3,6 +3,7 @@ use crate::word_in;
 use course::Course;
 use moments::Before;
 use options::Options;
+use std::rt::Files;
 use summary::{Counts, Judged, report};
 use telling::files::{discarded, kept, picture_drafted, snapshot_drafted};
 use telling::saying::{say_report, say_unseen};
@@ -20,40 +21,42 @@ fn time_of(at: Before, last: Time) -> Time {
 }
 
 // Whether all files that were asked for are drafted. If not, none is.
-fn files_drafted(
+fn files_drafted<R: Files, S: Print>(
+    rt: &R,
     snapshot: &[u8],
     picture: &[u8],
-    says: i32,
+    says: &S,
     record: &[u8],
     array: &[u8],
     charges: &[u64],
     buffer: &mut [u8],
     time: Time,
 ) -> bool {
-    if !snapshot_drafted(snapshot, says, record, array, charges, buffer) {
+    if !snapshot_drafted(rt, snapshot, says, record, array, charges, buffer) {
         return false;
     }
-    if !picture_drafted(picture, says, record, array, charges, buffer, time) {
-        discarded(snapshot);
+    if !picture_drafted(rt, picture, says, record, array, charges, buffer, time) {
+        discarded(rt, snapshot);
         return false;
     }
     true
 }
 
 // Whether all of them have their names.
-fn files_kept(snapshot: &[u8], picture: &[u8], says: i32) -> bool {
-    if !kept(snapshot, says) {
-        discarded(picture);
+fn files_kept<R: Files, S: Print>(rt: &R, snapshot: &[u8], picture: &[u8], says: &S) -> bool {
+    if !kept(rt, snapshot, says) {
+        discarded(rt, picture);
         return false;
     }
-    kept(picture, says)
+    kept(rt, picture, says)
 }
 
 // Whether the files that were asked for are written.
-fn files_written(
+fn files_written<R: Files, S: Print>(
+    rt: &R,
     args: &[u8],
     options: Options,
-    says: i32,
+    says: &S,
     record: &[u8],
     array: &[u8],
     charges: &[u64],
@@ -63,9 +66,9 @@ fn files_written(
     let snapshot = word_in(args, options.snapshot);
     let picture = word_in(args, options.picture);
     if files_drafted(
-        snapshot, picture, says, record, array, charges, buffer, time,
+        rt, snapshot, picture, says, record, array, charges, buffer, time,
     ) {
-        return files_kept(snapshot, picture, says);
+        return files_kept(rt, snapshot, picture, says);
     }
     false
 }
@@ -82,10 +85,11 @@ fn counts_of(course: Course) -> Counts {
 }
 
 // The report is made before files are written and said after, so that none is written of what can't be seen.
-pub fn finish(
+pub fn finish<R: Files + Print, S: Print>(
+    rt: &R,
     args: &[u8],
     options: Options,
-    says: i32,
+    says: &S,
     course: Course,
     record: &[u8],
     array: &[u8],
@@ -114,7 +118,9 @@ pub fn finish(
         say_unseen(says, reported.number);
         return;
     }
-    if files_written(args, options, says, record, array, charges, buffer, time) {
-        say_report(&text, reported.end);
+    if files_written(
+        rt, args, options, says, record, array, charges, buffer, time,
+    ) {
+        say_report(rt, &text, reported.end);
     }
 }

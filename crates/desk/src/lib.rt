@@ -12,6 +12,7 @@ use layout::RECORD_LEN;
 use options::{Options, options_of};
 use session::read_history;
 use slices::part;
+use std::rt::Files;
 use telling::beginning::{begin, last_settling};
 use telling::saying::say_help;
 use telling::troubles::complained;
@@ -22,10 +23,11 @@ pub fn word_in(args: &[u8], word: Word) -> &[u8] {
 }
 
 // A run on lent memory.
-fn serve(
+fn serve<R: Files + Print + Eprint, S: Print>(
+    rt: &R,
     args: &[u8],
     options: Options,
-    says: i32,
+    says: &S,
     record: &mut Record,
     array: &mut Array,
     charges: &mut Charges,
@@ -34,7 +36,7 @@ fn serve(
 ) {
     let image = word_in(args, options.image);
     let snapshot = word_in(args, options.restore);
-    if !begin(image, snapshot, says, record, array, charges, buffer) {
+    if !begin(rt, image, snapshot, says, record, array, charges, buffer) {
         return;
     }
     let manner = Manner {
@@ -44,21 +46,29 @@ fn serve(
     let path = word_in(args, options.history);
     let course = begun(last_settling(record));
     let read = read_history(
-        path, says, manner, course, record, array, charges, events, buffer,
+        rt, path, says, manner, course, record, array, charges, events, buffer,
     );
     if read.whole {
         let after = read.course;
-        finish(args, options, says, after, record, array, charges, buffer);
+        finish(
+            rt, args, options, says, after, record, array, charges, buffer,
+        );
     }
 }
 
-fn serve_in_memory(args: &[u8], options: Options, says: i32) {
+fn serve_in_memory<R: Files + Print + Eprint, S: Print>(
+    rt: &R,
+    args: &[u8],
+    options: Options,
+    says: &S,
+) {
     let mut record = [0u8; RECORD_LEN];
     let mut array = [0u8; FLASH_SIZE];
     let mut charges = [0u64; CELLS];
     let mut events = [0u64; EVENT_WORDS];
     let mut buffer = [0u8; BUFFER];
     serve(
+        rt,
         args,
         options,
         says,
@@ -70,16 +80,17 @@ fn serve_in_memory(args: &[u8], options: Options, says: i32) {
     );
 }
 
-// A run of the program with some arguments, which come one after the other, a byte 0 after each. Complaints go to a file descriptor.
-pub fn work(args: &[u8], says: i32) {
+// A run of the program with some arguments, which come one after the other, a byte 0 after each. Complaints go to the
+// writer that is lent for them.
+pub fn work<R: Files + Print + Eprint, S: Print>(rt: &R, args: &[u8], says: &S) {
     let options = options_of(args);
     if options.help {
-        say_help();
+        say_help(rt);
         return;
     }
     let trouble = options.trouble;
     if complained(says, trouble, word_in(args, options.culprit)) {
         return;
     }
-    serve_in_memory(args, options, says);
+    serve_in_memory(rt, args, options, says);
 }

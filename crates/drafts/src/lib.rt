@@ -2,8 +2,12 @@
 // every one of them is whole. What stood there before stays until then.
 #![tactic(auto)]
 
-use libc::{ENOENT, SEEK_END};
 use slices::first;
+use std::fs;
+use std::fs::{OpenFile, OpenOptions};
+use std::io::{ErrorKind, Seek, SeekFrom, Write};
+use std::rt::Files;
+use std::str::from_utf8;
 use text::putting::put_text;
 
 // Room for a draft's name. A path has at most 4,095 bytes.
@@ -16,60 +20,72 @@ fn name_beside(path: &[u8], name: &mut [u8]) -> usize {
 }
 
 // Whether an open file is a plain one, no device or pipe, whose name must stay: only a plain file can be given a length, here its own.
-fn is_plain(fd: i32) -> bool {
-    let length = libc::lseek(fd, 0, SEEK_END);
-    if length < 0 {
-        return false;
+fn is_plain<F: Seek + OpenFile>(file: &mut F) -> bool {
+    match file.seek(SeekFrom::End(0)) {
+        Ok(length) => file.set_len(length).is_ok(),
+        Err(_) => false,
     }
-    libc::ftruncate(fd, length) == 0
 }
 
 // Whether a name is free, or that of a plain file that may be written.
-fn may_take(path: &[u8]) -> bool {
-    let fd = os::open_update(path);
-    if fd < 0 {
-        return os::errno() == ENOENT;
+fn may_take<R: Files>(rt: &R, path: &str) -> bool {
+    match OpenOptions::new().read(true).write(true).open(rt, path) {
+        Ok(mut file) => is_plain(&mut file),
+        Err(e) => e.kind() == ErrorKind::NotFound,
     }
-    let plain = is_plain(fd);
-    libc::close(fd);
-    plain
 }
 
-// Whether both parts are in a file, which is then closed.
-fn written(fd: i32, head: &[u8], rest: &[u8]) -> bool {
-    let began = io::write_all(fd, head);
-    let went_on = io::write_all(fd, rest);
-    let closed = libc::close(fd);
-    began & went_on & (closed == 0)
+// Whether both parts are in a file, also on its disk, since nothing is told of a failure to close it.
+fn written<F: Write + OpenFile>(file: &mut F, head: &[u8], rest: &[u8]) -> bool {
+    let began = file.write_all(head).is_ok();
+    let went_on = file.write_all(rest).is_ok();
+    let kept = file.sync_all().is_ok();
+    began & went_on & kept
+}
+
+// Makes a file of two parts, where there is none of that name. On false there is none of this.
+fn made<R: Files>(rt: &R, name: &str, head: &[u8], rest: &[u8]) -> bool {
+    let mut whole = false;
+    match OpenOptions::new().write(true).create_new(true).open(rt, name) {
+        Ok(mut file) => whole = written(&mut file, head, rest),
+        Err(_) => return false,
+    }
+    if !whole {
+        let _ = fs::remove_file(rt, name);
+    }
+    whole
 }
 
 // Makes a draft of two parts. On false there is none.
-pub fn draft(path: &[u8], head: &[u8], rest: &[u8]) -> bool {
-    if !may_take(path) {
+pub fn draft<R: Files>(rt: &R, path: &[u8], head: &[u8], rest: &[u8]) -> bool {
+    let Ok(place) = from_utf8(path) else {
+        return false;
+    };
+    if !may_take(rt, place) {
         return false;
     }
     let mut name = [0u8; ROOM];
     let n = name_beside(path, &mut name);
-    let fd = os::create(first(&name, n));
-    if fd < 0 {
-        return false;
+    match from_utf8(first(&name, n)) {
+        Ok(beside) => made(rt, beside, head, rest),
+        Err(_) => false,
     }
-    if written(fd, head, rest) {
-        return true;
-    }
-    os::unlink(first(&name, n));
-    false
 }
 
 // A draft takes its name.
-pub fn keep(path: &[u8]) -> bool {
+pub fn keep<R: Files>(rt: &R, path: &[u8]) -> bool {
     let mut name = [0u8; ROOM];
     let n = name_beside(path, &mut name);
-    os::rename(first(&name, n), path) == 0
+    match (from_utf8(first(&name, n)), from_utf8(path)) {
+        (Ok(beside), Ok(place)) => fs::rename(rt, beside, place).is_ok(),
+        _ => false,
+    }
 }
 
-pub fn discard(path: &[u8]) {
+pub fn discard<R: Files>(rt: &R, path: &[u8]) {
     let mut name = [0u8; ROOM];
     let n = name_beside(path, &mut name);
-    os::unlink(first(&name, n));
+    if let Ok(beside) = from_utf8(first(&name, n)) {
+        let _ = fs::remove_file(rt, beside);
+    }
 }

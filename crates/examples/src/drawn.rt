@@ -1,7 +1,9 @@
 // A picture that a run wrote: its length, and its pixels counted and summed up.
 use course::more;
-use libc::STDOUT_FILENO;
 use slices::first;
+use std::fs;
+use std::rt::Files;
+use telling::reading::read_full;
 use text::say;
 
 // The bytes of a picture: its head, then one for each cell.
@@ -36,7 +38,7 @@ fn counted(bytes: &[u8]) -> Pixels {
     pixels
 }
 
-fn tell_bytes(bytes: &[u8]) {
+fn tell_bytes<R: Print>(rt: &R, bytes: &[u8]) {
     let pixels = counted(bytes);
     let mut text = [0u8; 128];
     let n = say(
@@ -45,18 +47,17 @@ fn tell_bytes(bytes: &[u8]) {
         b"box.pgm: % bytes, % pixels not black, sum %\n",
         &[bytes.len() as u64, pixels.bright, pixels.sum],
     );
-    io::write_all(STDOUT_FILENO, first(&text, n));
+    let _ = rt.write_all(first(&text, n));
 }
 
 // Tells of the picture, if there is one, and removes it.
-pub fn tell() {
-    let fd = os::open_read(b"box.pgm");
-    if fd < 0 {
-        return;
-    }
+pub fn tell<R: Files + Print>(rt: &R) {
     let mut bytes = [0u8; HEAD + CELLS + 1];
-    let n = io::read_full(fd, &mut bytes);
-    libc::close(fd);
-    tell_bytes(first(&bytes, n));
-    os::unlink(b"box.pgm");
+    let mut n = 0;
+    match fs::open(rt, "box.pgm") {
+        Ok(mut file) => n = read_full(&mut file, &mut bytes),
+        Err(_) => return,
+    }
+    tell_bytes(rt, first(&bytes, n));
+    let _ = fs::remove_file(rt, "box.pgm");
 }

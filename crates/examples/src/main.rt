@@ -5,46 +5,47 @@
 mod drawn;
 
 use byte_search::find;
-use libc::STDOUT_FILENO;
 use slices::part;
+use std::rt::Files;
 
-fn type_word(args: &[u8], from: usize, to: usize) {
-    io::write_all(STDOUT_FILENO, b" ");
-    io::write_all(STDOUT_FILENO, part(args, from, to));
+fn type_word<R: Print>(rt: &R, args: &[u8], from: usize, to: usize) {
+    let _ = rt.write_all(b" ");
+    let _ = rt.write_all(part(args, from, to));
 }
 
 // The arguments as they are typed, a space before each.
-fn type_words(args: &[u8]) {
+fn type_words<R: Print>(rt: &R, args: &[u8]) {
     let mut from: usize = 0;
     while from < args.len() {
         let to = find(args, from, args.len(), 0);
-        type_word(args, from, to);
+        type_word(rt, args, from, to);
         from = to + 1;
     }
 }
 
 // One run: its command, what it prints, what it wrote, and an empty line.
-fn run(args: &[u8]) {
-    io::write_all(STDOUT_FILENO, b"$ wipe");
-    type_words(args);
-    io::write_all(STDOUT_FILENO, b"\n");
-    desk::work(args, STDOUT_FILENO);
-    drawn::tell();
-    io::write_all(STDOUT_FILENO, b"\n");
+fn run<R: Files + Print + Eprint>(rt: &R, args: &[u8]) {
+    let _ = rt.write_all(b"$ wipe");
+    type_words(rt, args);
+    let _ = rt.write_all(b"\n");
+    desk::work(rt, args, rt);
+    drawn::tell(rt);
+    let _ = rt.write_all(b"\n");
 }
 
 // Each line of the list is a run; each word in it has a byte 0 after it.
-fn run_all(runs: &[u8]) {
+fn run_all<R: Files + Print + Eprint>(rt: &R, runs: &[u8]) {
     let mut at: usize = 0;
     while at < runs.len() {
         let end = find(runs, at, runs.len(), b'\n');
-        run(part(runs, at, end));
+        run(rt, part(runs, at, end));
         at = end + 1;
     }
 }
 
-fn main() {
+fn main(rt: HostRuntime) {
     run_all(
+        &rt,
         b"fresh.history\0\n\
       --events\0programmed.history\0\n\
       --map\0programmed.history\0\n\

@@ -1,5 +1,5 @@
-// The functions that a host program in Rust or C links against. None asks for anything: each tells its whole outcome for every input,
-// refusals included.
+// The functions that a host program in Rust or C links against, exported by the crate `host_c`. None asks for anything: each tells its
+// whole outcome for every input, refusals included.
 #![tactic(auto)]
 
 pub mod calls;

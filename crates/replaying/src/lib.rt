@@ -1,4 +1,5 @@
-// The replay for C and Rust programs, in an archive of its own: the host interface has one call a function.
+// The replay for C and Rust programs, exported by the crate `replaying_c` into an archive of its own: the host interface has one call a
+// function.
 #![tactic(auto)]
 
 ghost use Rattle.listing.specs.Replaying.{asks, Replays};

@@ -1,11 +1,10 @@
 // What a step of a run said is written, and what it complained of is put into words.
 use course::Complaint;
-use libc::STDOUT_FILENO;
 use slices::{first, part};
 use telling::saying::{say_fault, say_look_refused, say_refusal};
 
 // A complaint about a line quotes it.
-fn complain(says: i32, go_on: bool, line: &[u8], complaint: Complaint) {
+fn complain<S: Print>(says: &S, go_on: bool, line: &[u8], complaint: Complaint) {
     match complaint {
         Complaint::Nothing => {}
         Complaint::Refused(number, refusal) => say_refusal(says, number, refusal),
@@ -25,9 +24,17 @@ fn complain(says: i32, go_on: bool, line: &[u8], complaint: Complaint) {
     }
 }
 
-pub fn tell(says: i32, go_on: bool, out: &[u8], end: usize, line: &[u8], complaint: Complaint) {
+pub fn tell<R: Print, S: Print>(
+    rt: &R,
+    says: &S,
+    go_on: bool,
+    out: &[u8],
+    end: usize,
+    line: &[u8],
+    complaint: Complaint,
+) {
     if 0 < end {
-        io::write_all(STDOUT_FILENO, first(out, end));
+        let _ = rt.write_all(first(out, end));
     }
     complain(says, go_on, line, complaint);
 }

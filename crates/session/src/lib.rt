@@ -10,6 +10,9 @@ use course::memory::{Array, Buffer, Charges, Events, LONGEST, NUMBERS, ROOM, Rec
 use course::{Course, Manner, Place};
 use grammar::Line;
 use moments::Before;
+use std::io;
+use std::rt::Files;
+use telling::reading::open;
 use telling::saying::say_not_opened;
 
 mod complaints;
@@ -81,10 +84,11 @@ fn is_whole(run: Run) -> bool
 }
 
 // Runs the open file's text on the flash in lent memory.
-fn read_file(
-    fd: i32,
+fn read_file<R: Print + Eprint, F: io::Read, S: Print>(
+    rt: &R,
+    file: &mut F,
     path: &[u8],
-    says: i32,
+    says: &S,
     manner: Manner,
     course: Course,
     record: &mut Record,
@@ -100,7 +104,8 @@ fn read_file(
     let mut line = [0u8; LONGEST];
     let mut piece = [0u8; PIECE];
     let run = take_turns(
-        fd,
+        rt,
+        file,
         path,
         says,
         manner,
@@ -122,10 +127,11 @@ fn read_file(
     }
 }
 
-// Runs the history in a file on the flash in lent memory. What it says goes to standard output, its complaints to a file descriptor.
-pub fn read_history(
+// Runs the history in a file on the flash in lent memory. What it says goes to standard output, its complaints to the writer that is lent for them.
+pub fn read_history<R: Files + Print + Eprint, S: Print>(
+    rt: &R,
     path: &[u8],
-    says: i32,
+    says: &S,
     manner: Manner,
     course: Course,
     record: &mut Record,
@@ -136,17 +142,16 @@ pub fn read_history(
 ) -> Read
     ensures { result.whole ≡ true → ReadWhole manner (desk course (record { bytes = «record».old; array = array.old; charges = charges.old }) events.old) result.course (record { bytes = «record».new; array = array.new; charges = charges.new }) events.new }
 {
-    let fd = os::open_read(path);
-    if fd < 0 {
-        say_not_opened(says, path);
-        return Read {
-            course,
-            whole: false,
-        };
+    match open(rt, path) {
+        Some(mut file) => read_file(
+            rt, &mut file, path, says, manner, course, record, array, charges, events, out,
+        ),
+        None => {
+            say_not_opened(says, path);
+            Read {
+                course,
+                whole: false,
+            }
+        }
     }
-    let read = read_file(
-        fd, path, says, manner, course, record, array, charges, events, out,
-    );
-    libc::close(fd);
-    read
 }

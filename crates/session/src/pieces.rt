@@ -4,6 +4,7 @@ ghost use Rattle.session.specs.Going.{Standing, with_piece, with_failure, Moves}
 
 use crate::{Piece, Run};
 use course::memory::{Bytes, Calls, Numbers};
+use std::io::Read;
 use steps::reading::close;
 use telling::saying::say_not_read;
 
@@ -48,10 +49,10 @@ fn with_failure(run: Run) -> Run
 }
 
 // The next piece of the file, or its end.
-pub fn next_piece(
-    fd: i32,
+pub fn next_piece<F: Read, S: Print>(
+    file: &mut F,
     path: &[u8],
-    says: i32,
+    says: &S,
     run: Run,
     line: &Bytes,
     calls: &mut Calls,
@@ -62,13 +63,12 @@ pub fn next_piece(
     ensures { Moves run calls.old numbers.old line.now result calls.new numbers.new }
 {
     let bytes: &mut [u8] = piece;
-    let got = libc::read(fd, bytes);
-    if got < 0 {
-        say_not_read(says, path);
-        return with_failure(run);
+    match file.read(bytes) {
+        Err(_) => {
+            say_not_read(says, path);
+            with_failure(run)
+        }
+        Ok(0) => closed(run, line, calls, numbers),
+        Ok(got) => with_piece(run, got),
     }
-    if got == 0 {
-        return closed(run, line, calls, numbers);
-    }
-    with_piece(run, io::count(got, bytes))
 }

@@ -51,17 +51,18 @@ fn step_in_piece(
 }
 
 // Progress is told where a multiple of so many lines was passed.
-fn note_lines(before: u64, after: u64) {
+fn note_lines<R: Eprint>(rt: &R, before: u64, after: u64) {
     let passed = after / MANY;
     if before / MANY != passed {
-        say_progress(passed * MANY);
+        say_progress(rt, passed * MANY);
     }
 }
 
 // The next step, and what it said.
-pub fn next_step(
+pub fn next_step<R: Print + Eprint, S: Print>(
+    rt: &R,
     run: Run,
-    says: i32,
+    says: &S,
     manner: Manner,
     record: &mut Record,
     array: &mut Array,
@@ -83,8 +84,8 @@ pub fn next_step(
     let place = s.place;
     let complaint = s.complaint;
     let before = run.place;
-    tell(says, manner.go_on, out, s.end, line, complaint);
-    note_lines(before.lines, place.lines);
+    tell(rt, says, manner.go_on, out, s.end, line, complaint);
+    note_lines(rt, before.lines, place.lines);
     Run {
         course,
         place,

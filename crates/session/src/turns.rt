@@ -7,6 +7,7 @@ use crate::stepping::next_step;
 use crate::{Piece, Run};
 use course::Manner;
 use course::memory::{Array, Buffer, Bytes, Calls, Charges, Events, Numbers, Record};
+use std::io::Read;
 
 // Whether calls are being run, or bytes of the piece are left.
 fn can_step(run: Run) -> bool
@@ -20,10 +21,11 @@ fn can_step(run: Run) -> bool
 }
 
 // A step where one can be taken, else a piece where the file may have one.
-fn turn(
-    fd: i32,
+fn turn<R: Print + Eprint, F: Read, S: Print>(
+    rt: &R,
+    file: &mut F,
     path: &[u8],
-    says: i32,
+    says: &S,
     manner: Manner,
     run: Run,
     record: &mut Record,
@@ -45,11 +47,11 @@ fn turn(
     }
     if can_step(run) {
         return next_step(
-            run, says, manner, record, array, charges, events, calls, numbers, line, piece, out,
+            rt, run, says, manner, record, array, charges, events, calls, numbers, line, piece, out,
         );
     }
     if run.more {
-        return next_piece(fd, path, says, run, line, calls, numbers, piece);
+        return next_piece(file, path, says, run, line, calls, numbers, piece);
     }
     run
 }
@@ -68,10 +70,11 @@ fn turns_after(turns: u64, run: Run) -> u64
 }
 
 // Turn after turn.
-pub fn take_turns(
-    fd: i32,
+pub fn take_turns<R: Print + Eprint, F: Read, S: Print>(
+    rt: &R,
+    file: &mut F,
     path: &[u8],
-    says: i32,
+    says: &S,
     manner: Manner,
     run: Run,
     record: &mut Record,
@@ -91,8 +94,8 @@ pub fn take_turns(
     let mut turns = u64::MAX;
     while turns > 0 {
         r = turn(
-            fd, path, says, manner, r, record, array, charges, events, calls, numbers, line, piece,
-            out,
+            rt, file, path, says, manner, r, record, array, charges, events, calls, numbers, line,
+            piece, out,
         );
         turns = turns_after(turns, r);
     }

@@ -1,4 +1,5 @@
 // What the history begins with: an empty flash, an image, or a snapshot.
+use crate::reading::{open, read_full};
 use crate::saying::{say_image_length, say_no_snapshot, say_not_opened};
 use cell::FLASH_SIZE;
 use checks::accepts;
@@ -7,6 +8,7 @@ use layout::RECORD_LEN;
 use lent::making::make;
 use restore::read_snapshot;
 use slices::first;
+use std::rt::Files;
 use time::Time;
 
 // Every byte FF.
@@ -22,26 +24,26 @@ enum Loaded {
     Nothing,
 }
 
-fn load(path: &[u8], says: i32, buffer: &mut [u8]) -> Loaded {
-    let fd = os::open_read(path);
-    if fd < 0 {
-        say_not_opened(says, path);
-        return Loaded::Nothing;
+fn load<R: Files, S: Print>(rt: &R, path: &[u8], says: &S, buffer: &mut [u8]) -> Loaded {
+    match open(rt, path) {
+        Some(mut file) => Loaded::Bytes(read_full(&mut file, buffer)),
+        None => {
+            say_not_opened(says, path);
+            Loaded::Nothing
+        }
     }
-    let n = io::read_full(fd, buffer);
-    libc::close(fd);
-    Loaded::Bytes(n)
 }
 
-fn begin_from_image(
+fn begin_from_image<R: Files, S: Print>(
+    rt: &R,
     path: &[u8],
-    says: i32,
+    says: &S,
     record: &mut [u8],
     array: &mut [u8],
     charges: &[u64],
     buffer: &mut [u8],
 ) -> bool {
-    let loaded = load(path, says, buffer);
+    let loaded = load(rt, path, says, buffer);
     match loaded {
         Loaded::Nothing => false,
         Loaded::Bytes(n) => {
@@ -55,15 +57,16 @@ fn begin_from_image(
 }
 
 // A snapshot is taken at the last instant that is accepted. Each call then has to come after its last settling.
-fn begin_from_snapshot(
+fn begin_from_snapshot<R: Files, S: Print>(
+    rt: &R,
     path: &[u8],
-    says: i32,
+    says: &S,
     record: &mut [u8],
     array: &mut [u8],
     charges: &mut [u64],
     buffer: &mut [u8],
 ) -> bool {
-    let loaded = load(path, says, buffer);
+    let loaded = load(rt, path, says, buffer);
     match loaded {
         Loaded::Nothing => false,
         Loaded::Bytes(n) => {
@@ -77,20 +80,21 @@ fn begin_from_snapshot(
     }
 }
 
-pub fn begin(
+pub fn begin<R: Files, S: Print>(
+    rt: &R,
     image: &[u8],
     snapshot: &[u8],
-    says: i32,
+    says: &S,
     record: &mut [u8],
     array: &mut [u8],
     charges: &mut [u64],
     buffer: &mut [u8],
 ) -> bool {
     if 0 < image.len() {
-        return begin_from_image(image, says, record, array, charges, buffer);
+        return begin_from_image(rt, image, says, record, array, charges, buffer);
     }
     if 0 < snapshot.len() {
-        return begin_from_snapshot(snapshot, says, record, array, charges, buffer);
+        return begin_from_snapshot(rt, snapshot, says, record, array, charges, buffer);
     }
     begin_empty(record, array, charges)
 }

@@ -6,14 +6,15 @@ use picture::see_shades;
 use report::picture_head;
 use save::write_snapshot;
 use slices::first;
+use std::rt::Files;
 use time::Time;
 
 // Room for a picture's head.
 const HEAD: usize = 32;
 
 // A file that is asked for is drafted, or it is said that it can't be written.
-fn drafted(path: &[u8], says: i32, head: &[u8], rest: &[u8]) -> bool {
-    let whole = draft(path, head, rest);
+fn drafted<R: Files, S: Print>(rt: &R, path: &[u8], says: &S, head: &[u8], rest: &[u8]) -> bool {
+    let whole = draft(rt, path, head, rest);
     if !whole {
         say_not_written(says, path);
     }
@@ -21,9 +22,10 @@ fn drafted(path: &[u8], says: i32, head: &[u8], rest: &[u8]) -> bool {
 }
 
 // Whether the snapshot is drafted, if one is asked for.
-pub fn snapshot_drafted(
+pub fn snapshot_drafted<R: Files, S: Print>(
+    rt: &R,
     path: &[u8],
-    says: i32,
+    says: &S,
     record: &[u8],
     array: &[u8],
     charges: &[u64],
@@ -37,13 +39,14 @@ pub fn snapshot_drafted(
         say_not_written(says, path);
         return false;
     }
-    drafted(path, says, b"", first(buffer, written.length))
+    drafted(rt, path, says, b"", first(buffer, written.length))
 }
 
 // Whether the picture is drafted, if one is asked for.
-pub fn picture_drafted(
+pub fn picture_drafted<R: Files, S: Print>(
+    rt: &R,
     path: &[u8],
-    says: i32,
+    says: &S,
     record: &[u8],
     array: &[u8],
     charges: &[u64],
@@ -59,25 +62,25 @@ pub fn picture_drafted(
     }
     let mut head = [0u8; HEAD];
     let n = picture_head(&mut head, 0);
-    drafted(path, says, first(&head, n), first(buffer, CELLS))
+    drafted(rt, path, says, first(&head, n), first(buffer, CELLS))
 }
 
 // A file that was asked for takes its name.
-pub fn kept(path: &[u8], says: i32) -> bool {
+pub fn kept<R: Files, S: Print>(rt: &R, path: &[u8], says: &S) -> bool {
     if path.len() == 0 {
         return true;
     }
-    if keep(path) {
+    if keep(rt, path) {
         return true;
     }
     say_not_written(says, path);
-    discard(path);
+    discard(rt, path);
     false
 }
 
 // A draft of a file that was asked for is removed.
-pub fn discarded(path: &[u8]) {
+pub fn discarded<R: Files>(rt: &R, path: &[u8]) {
     if 0 < path.len() {
-        discard(path);
+        discard(rt, path);
     }
 }

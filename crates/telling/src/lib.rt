@@ -4,5 +4,6 @@
 
 pub mod beginning;
 pub mod files;
+pub mod reading;
 pub mod saying;
 pub mod troubles;

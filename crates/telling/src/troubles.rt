@@ -41,9 +41,9 @@ fn of_all(out: &mut [u8], trouble: Trouble, word: &[u8]) -> usize {
 }
 
 // Whether something is wrong, which is then said.
-pub fn complained(to: i32, trouble: Trouble, word: &[u8]) -> bool {
+pub fn complained<S: Print>(to: &S, trouble: Trouble, word: &[u8]) -> bool {
     let mut text = [0u8; ROOM];
     let n = of_all(&mut text, trouble, word);
-    io::write_all(to, first(&text, n));
+    let _ = to.write_all(first(&text, n));
     0 < n
 }

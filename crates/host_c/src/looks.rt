@@ -1,0 +1,107 @@
+// Looking, and a new array: nothing changes but the output, or what is made.
+ghost use Rattle.std.specs.Prelude.{◌≡◌, length};
+ghost use Rattle.layout.specs.Layout.{record_length};
+ghost use Rattle.lent.specs.Looked.{answered, register_refusal, register_answer, normal_refusal, normal_answer, peek_refusal, peek_answer, charge_refusal, charge_answer, blank_refusal, blank_answer, image_refusal, image_left, new_refusal, new_record, new_array};
+
+// How many bytes a record has.
+#[unsafe(no_mangle)]
+pub extern "C" fn flash_record_len() -> usize
+    ensures { result ≡ record_length }
+{
+    host::looks::flash_record_len()
+}
+
+// A new array from firmware; the charge store is only measured.
+#[unsafe(no_mangle)]
+pub extern "C" fn flash_new(
+    firmware: &[u8],
+    record: &mut [u8],
+    array: &mut [u8],
+    charges: &[u64],
+) -> u32
+    ensures { (result ≡ new_refusal firmware.now (length «record».old) (length array.old) (length charges.now)) × («record».new ≡ new_record result «record».old) × (array.new ≡ new_array result firmware.now array.old) }
+{
+    host::looks::flash_new(firmware, record, array, charges)
+}
+
+// A register as reading shows it.
+#[unsafe(no_mangle)]
+pub extern "C" fn flash_register(record: &[u8], address: u16, value: &mut u8) -> u32
+    ensures { (result ≡ register_refusal «record».now) × (value.new ≡ answered result (register_answer «record».now address) value.old) }
+{
+    host::looks::flash_register(record, address, value)
+}
+
+// Whether reading is normal at a time.
+#[unsafe(no_mangle)]
+pub extern "C" fn flash_normal(record: &[u8], seconds: u64, fraction: u64, normal: &mut u8) -> u32
+    ensures { (result ≡ normal_refusal «record».now (record { 0 = seconds; 1 = fraction })) × (normal.new ≡ answered result (normal_answer «record».now (record { 0 = seconds; 1 = fraction })) normal.old) }
+{
+    host::looks::flash_normal(record, seconds, fraction, normal)
+}
+
+// A byte of the image at a time.
+#[unsafe(no_mangle)]
+pub extern "C" fn flash_peek(
+    record: &[u8],
+    array: &[u8],
+    charges: &[u64],
+    address: u16,
+    seconds: u64,
+    fraction: u64,
+    value: &mut u8,
+) -> u32
+    ensures { (result ≡ peek_refusal address (record { 0 = seconds; 1 = fraction }) (record { bytes = «record».now; array = array.now; charges = charges.now })) × (value.new ≡ answered result (peek_answer address (record { 0 = seconds; 1 = fraction }) (record { bytes = «record».now; array = array.now; charges = charges.now })) value.old) }
+{
+    host::looks::flash_peek(record, array, charges, address, seconds, fraction, value)
+}
+
+// The charge of a cell at a time.
+#[unsafe(no_mangle)]
+pub extern "C" fn flash_cell_charge(
+    record: &[u8],
+    array: &[u8],
+    charges: &[u64],
+    address: u16,
+    bit: u8,
+    seconds: u64,
+    fraction: u64,
+    charge: &mut u64,
+) -> u32
+    ensures { (result ≡ charge_refusal address bit (record { 0 = seconds; 1 = fraction }) (record { bytes = «record».now; array = array.now; charges = charges.now })) × (charge.new ≡ answered result (charge_answer address bit (record { 0 = seconds; 1 = fraction }) (record { bytes = «record».now; array = array.now; charges = charges.now })) charge.old) }
+{
+    host::looks::flash_cell_charge(
+        record, array, charges, address, bit, seconds, fraction, charge,
+    )
+}
+
+// Whether the page of an address is blank at a time.
+#[unsafe(no_mangle)]
+pub extern "C" fn flash_blank_page(
+    record: &[u8],
+    array: &[u8],
+    charges: &[u64],
+    address: u16,
+    seconds: u64,
+    fraction: u64,
+    blank: &mut u8,
+) -> u32
+    ensures { (result ≡ blank_refusal address (record { 0 = seconds; 1 = fraction }) (record { bytes = «record».now; array = array.now; charges = charges.now })) × (blank.new ≡ answered result (blank_answer address (record { 0 = seconds; 1 = fraction }) (record { bytes = «record».now; array = array.now; charges = charges.now })) blank.old) }
+{
+    host::looks::flash_blank_page(record, array, charges, address, seconds, fraction, blank)
+}
+
+// The image at a time, at the beginning of the output.
+#[unsafe(no_mangle)]
+pub extern "C" fn flash_image(
+    record: &[u8],
+    array: &[u8],
+    charges: &[u64],
+    seconds: u64,
+    fraction: u64,
+    out: &mut [u8],
+) -> u32
+    ensures { (result ≡ image_refusal (record { 0 = seconds; 1 = fraction }) (length out.old) (record { bytes = «record».now; array = array.now; charges = charges.now })) × (out.new ≡ image_left result (record { 0 = seconds; 1 = fraction }) (record { bytes = «record».now; array = array.now; charges = charges.now }) out.old) }
+{
+    host::looks::flash_image(record, array, charges, seconds, fraction, out)
+}

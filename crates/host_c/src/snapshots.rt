@@ -1,0 +1,43 @@
+// Snapshots: a state handed on as one string of bytes, and whether a state is valid.
+ghost use Rattle.std.specs.Prelude.{◌≡◌, length};
+ghost use Rattle.lent.specs.Memory.{chip_in};
+ghost use Rattle.lent.specs.Looked.{answered};
+ghost use Rattle.snapshot.specs.Snapshot.{snapshot_of};
+ghost use Rattle.snapshot.specs.Asked.{valid_refusal, valid_answer, write_refusal, written_out, read_refusal, memory_read, Left};
+
+// Whether a record's state is valid at a time.
+#[unsafe(no_mangle)]
+pub extern "C" fn flash_validate(record: &[u8], seconds: u64, fraction: u64, valid: &mut u8) -> u32
+    ensures { (result ≡ valid_refusal «record».now (record { 0 = seconds; 1 = fraction })) × (valid.new ≡ answered result (valid_answer «record».now (record { 0 = seconds; 1 = fraction })) valid.old) }
+{
+    host::snapshots::flash_validate(record, seconds, fraction, valid)
+}
+
+// The snapshot, at the beginning of the output, and its length.
+#[unsafe(no_mangle)]
+pub extern "C" fn flash_write_snapshot(
+    record: &[u8],
+    array: &[u8],
+    charges: &[u64],
+    out: &mut [u8],
+    len: &mut u64,
+) -> u32
+    ensures { (result ≡ write_refusal (length out.old) (record { bytes = «record».now; array = array.now; charges = charges.now })) × (out.new ≡ written_out result (record { bytes = «record».now; array = array.now; charges = charges.now }) out.old) × (len.new ≡ answered result (length (snapshot_of (chip_in (record { bytes = «record».now; array = array.now; charges = charges.now })))) len.old) }
+{
+    host::snapshots::flash_write_snapshot(record, array, charges, out, len)
+}
+
+// A snapshot taken into lent memory, or refused and nothing changed.
+#[unsafe(no_mangle)]
+pub extern "C" fn flash_read_snapshot(
+    bytes: &[u8],
+    record: &mut [u8],
+    array: &mut [u8],
+    charges: &mut [u64],
+    seconds: u64,
+    fraction: u64,
+) -> u32
+    ensures { (result ≡ read_refusal (record { 0 = seconds; 1 = fraction }) bytes.entry.now (record { bytes = «record».old; array = array.old; charges = charges.old })) × Left (memory_read result bytes.entry.now (record { bytes = «record».old; array = array.old; charges = charges.old })) «record».new array.new charges.new }
+{
+    host::snapshots::flash_read_snapshot(bytes, record, array, charges, seconds, fraction)
+}

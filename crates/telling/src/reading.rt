@@ -1,0 +1,24 @@
+// Files that are read.
+use std::fs;
+use std::io::Read;
+use std::rt::Files;
+use std::str::from_utf8;
+
+// A file that is open for reading, unless there is none that can be read.
+pub fn open<R: Files>(rt: &R, path: &[u8]) -> Option<R::File> {
+    let name = from_utf8(path).ok()?;
+    fs::open(rt, name).ok()
+}
+
+// Reads until the buffer is full, the file ends or a read fails, and answers how many bytes stand at the buffer's start.
+pub fn read_full<F: Read>(file: &mut F, buffer: &mut [u8]) -> usize {
+    let mut done = 0;
+    while done < buffer.len() {
+        match file.read(&mut buffer[done..]) {
+            Ok(0) => return done,
+            Ok(n) => done += n,
+            Err(_) => return done,
+        }
+    }
+    done
+}
