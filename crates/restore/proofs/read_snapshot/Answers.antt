@@ -5,29 +5,24 @@ use Rattle.restore.proofs.Taken.{sizes-refused, time-refused, scan-refused, read
 use borrow.Author.Rules.{rules}
 use Rattle.restore.proofs.read_snapshot.Goals as goal
 
--- src/reading.rt:62:9
 pub returns-then-sizes_misfit : goal.returns-then-sizes_misfit
 returns-then-sizes_misfit c = (sizes-refused _ _ _ (sym c.sizes_misfit.ensures ∙ c.if-sizes_misfit.true), record { record_is = refl; array_is = refl; charges_are = refl })
 
--- src/reading.rt:65:9
 pub returns-then-last_second : goal.returns-then-last_second
 returns-then-last_second c = (
   time-refused _ _ _ (sym c.sizes_misfit.ensures ∙ c.if-sizes_misfit.false) (sym c.last_second.ensures ∙ c.if-last_second.true),
   record { record_is = refl; array_is = refl; charges_are = refl },
 )
 
--- src/reading.rt:68:9
 pub scan-number-requires : goal.scan-number-requires
 unfolding no_pages
 scan-number-requires c = refl
 
--- src/reading.rt:70:9
 pub returns-then-number-ne0 : goal.returns-then-number-ne0
 returns-then-number-ne0 c =
     scan-refused _ _ _ (λ j. (c.shared_slice_known-1.given j).fits) (sym c.sizes_misfit.ensures ∙ c.if-sizes_misfit.false)
     (sym c.last_second.ensures ∙ c.if-last_second.false) _ c.scan-number.ensures.0 c.if-number-ne0.true
 
--- src/reading.rt:72:5
 pub take-requires : goal.take-requires
 take-requires c =
     let n = c.scan-number.ensures in
@@ -35,7 +30,6 @@ take-requires c =
     let f = sizes-fit _ _ _ (sym c.sizes_misfit.ensures ∙ c.if-sizes_misfit.false) in
     (sym n.0 ∙ z, n.1 z, f.record_long, f.array_long, f.charges_long)
 
--- src/reading.rt:52:1
 pub returns : goal.returns
 returns c =
     let n = c.scan-number.ensures in

@@ -1,61 +1,52 @@
 use mathlib.Core.Path.{refl, sym, ◌∙◌}
 use lib.Seq.{length-take-le}
-use borrow.Author.Tests.{not-true, not-false}
 use native.Mathlib.Omega.{arith}
 use Rattle.snapshot.proofs.Places.{scan-room}
 use Rattle.restore.proofs.Taken.{room, left_over, not_valid, taken}
 use borrow.Author.Rules.{rules}
 use Rattle.restore.proofs.take.Goals as goal
 
--- src/reading.rt:36:9
 pub count_in-count-requires : goal.count_in-count-requires
 count_in-count-requires c = (scan-room _ c.requires.0).0
 
--- src/reading.rt:37:9
 pub page_at-at-requires : goal.page_at-at-requires
 page_at-at-requires c = rw c.count_in-count.ensures (scan-room _ c.requires.0).1
 
--- src/reading.rt:38:13
 pub state_length-requires : goal.state_length-requires
 state_length-requires c = omega (arith, (room _ _ _ c.requires.0 c.count_in-count.ensures c.page_at-at.ensures).1)
 
--- src/reading.rt:38:8
 pub overflow_add-at : goal.overflow_add-at
 overflow_add-at c = omega (arith, c.state_length.ensures, (room _ _ _ c.requires.0 c.count_in-count.ensures c.page_at-at.ensures).0)
 
--- src/reading.rt:39:9
 pub returns-then-at-state_length : goal.returns-then-at-state_length
 returns-then-at-state_length c =
     let count = c.count_in-count.ensures in
     let place = c.page_at-at.ensures in
     (left_over _ _ _ _ _ _ count place c.state_length.ensures c.requires.1 c.if-at-state_length.true, record { record_is = refl; array_is = refl; charges_are = refl })
 
--- src/reading.rt:41:9
 pub flash_at-flash-requires : goal.flash_at-flash-requires
 flash_at-flash-requires c =
     let count = c.count_in-count.ensures in
     let place = c.page_at-at.ensures in
     (room _ _ _ c.requires.0 count place).0
 
--- src/reading.rt:43:9
 pub returns-then-not-valid : goal.returns-then-not-valid
 returns-then-not-valid c =
     let count = c.count_in-count.ensures in
     let place = c.page_at-at.ensures in (
       not_valid _ _ _ _ _ _ count place c.state_length.ensures c.requires.1 c.if-at-state_length.false _
-          c.flash_at-flash.ensures _ c.valid.ensures (not-true _ c.if-not-valid.true),
+          c.flash_at-flash.ensures _ c.valid.ensures c.if-not-valid.true,
       record { record_is = refl; array_is = refl; charges_are = refl },
     )
 
--- LOST: slice-bounds-copy-end = omega (arith, (scan-room _ c.requires.0).0)
+pub slice_bounds-copy-end : goal.slice_bounds-copy-end
+slice_bounds-copy-end c = omega (arith, (scan-room _ c.requires.0).0)
 
--- src/reading.rt:45:5
 pub copy-requires : goal.copy-requires
 copy-requires c =
     let r = (scan-room _ c.requires.0).0 in
     length-take-le 49152 c.args.bytes.now (omega (arith, r)) ∙ sym c.requires.3
 
--- src/reading.rt:46:5
 pub load_pages-requires : goal.load_pages-requires
 load_pages-requires c =
     let count = c.count_in-count.ensures in
@@ -63,10 +54,9 @@ load_pages-requires c =
     let r = room _ _ _ c.requires.0 count place in
     (rw count (scan-room _ c.requires.0).1, rw (← place) (omega (arith, r.1)), c.requires.4)
 
--- src/reading.rt:25:1
 pub returns : goal.returns
 returns c =
     taken _ _ _ _ _ _ c.count_in-count.ensures c.page_at-at.ensures c.state_length.ensures c.requires.1
-    c.if-at-state_length.false _ c.flash_at-flash.ensures _ c.valid.ensures (not-false _ c.if-not-valid.false)
+    c.if-at-state_length.false _ c.flash_at-flash.ensures _ c.valid.ensures c.if-not-valid.false
     (record { bytes = c.args.«record».now; array = c.args.array.now; charges = c.args.charges.now }) _ _ _ c.write.ensures
     c.copy.ensures c.load_pages.ensures

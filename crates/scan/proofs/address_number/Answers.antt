@@ -1,6 +1,5 @@
 -- `scan::address_number` meets its contract: the tests passed so far rewrite the definition's to the number. Assumes nothing.
 use Rattle.std.proofs.Common.{sym, ◌∙◌, arith, rules, le-ltb, lt-ltb, eq-eqb, ne_eqb}
-use borrow.Author.Tests.{not-true, not-false}
 use Rattle.snapshot.specs.Places.{address_number}
 use Rattle.scan.proofs.Turns.{placed-page}
 use Rattle.scan.proofs.address_number.Goals as goal
@@ -12,11 +11,11 @@ returns-then-bytes-at c = rw (lt-ltb _ _ c.if-bytes-at.true)
 pub returns-then-not-placed : goal.returns-then-not-placed
 unfolding address_number
 returns-then-not-placed c =
-    rw (le-ltb _ _ c.if-bytes-at.false, ← c.get16-address.ensures, sym c.placed.ensures ∙ not-true _ c.if-not-placed.true)
+    rw (le-ltb _ _ c.if-bytes-at.false, ← c.get16-address.ensures, sym c.placed.ensures ∙ c.if-not-placed.true)
 
 pub bounds-indices-wide : goal.bounds-indices-wide
 bounds-indices-wide c =
-    let l = placed-page c.get16-address.result (sym c.placed.ensures ∙ not-false _ c.if-not-placed.false) in
+    let l = placed-page c.get16-address.result (sym c.placed.ensures ∙ c.if-not-placed.false) in
     omega arith
 
 pub returns-then-indices-wide-ne0 : goal.returns-then-indices-wide-ne0
@@ -25,7 +24,7 @@ returns-then-indices-wide-ne0 c =
     rw (
       le-ltb _ _ c.if-bytes-at.false,
       ← c.get16-address.ensures,
-      sym c.placed.ensures ∙ not-false _ c.if-not-placed.false,
+      sym c.placed.ensures ∙ c.if-not-placed.false,
       ne_eqb _ _ (rw c.wide.ensures at c.if-indices-wide-ne0.true),
     )
 
@@ -35,6 +34,6 @@ returns c =
     rw (
       le-ltb _ _ c.if-bytes-at.false,
       ← c.get16-address.ensures,
-      sym c.placed.ensures ∙ not-false _ c.if-not-placed.false,
+      sym c.placed.ensures ∙ c.if-not-placed.false,
       eq-eqb _ _ (rw c.wide.ensures at c.if-indices-wide-ne0.false),
     )

@@ -3,7 +3,7 @@
 use Rattle.lent.proofs.Looks.{shown, shown-refused}
 use Rattle.snapshot.specs.Asked.{valid_refusal, valid_answer}
 use mathlib.Core.Path.{refl, sym, ◌∙◌}
-use borrow.Author.Tests.{ne_eqb, eq-eqb, not-true, not-false}
+use borrow.Author.Tests.{ne_eqb, eq-eqb}
 use native.Mathlib.Omega.{arith}
 use borrow.Author.Rules.{rules}
 use Rattle.validity.proofs.see_valid.Goals as goal
@@ -15,7 +15,7 @@ returns-then-record-ne-RECORD_LEN c = shown-refused (rw (ne_eqb _ _ c.if-record-
 pub returns-then-not-legible : goal.returns-then-not-legible
 unfolding valid_refusal
 returns-then-not-legible c =
-    shown-refused (rw (eq-eqb _ _ c.if-record-ne-RECORD_LEN.false, sym c.legible.ensures ∙ not-true _ c.if-not-legible.true))
+    shown-refused (rw (eq-eqb _ _ c.if-record-ne-RECORD_LEN.false, sym c.legible.ensures ∙ c.if-not-legible.true))
     (λ e. absurd (omega (arith, e)))
 
 pub returns-then-last_second : goal.returns-then-last_second
@@ -23,7 +23,7 @@ unfolding valid_refusal
 returns-then-last_second c =
     shown-refused (rw (
       eq-eqb _ _ c.if-record-ne-RECORD_LEN.false,
-      sym c.legible.ensures ∙ not-false _ c.if-not-legible.false,
+      sym c.legible.ensures ∙ c.if-not-legible.false,
       sym c.last_second.ensures ∙ c.if-last_second.true,
     ))
     (λ e. absurd (omega (arith, e)))
@@ -33,7 +33,7 @@ unfolding valid_refusal valid_answer
 returns c =
     shown {number = 0} (rw (
       eq-eqb _ _ c.if-record-ne-RECORD_LEN.false,
-      sym c.legible.ensures ∙ not-false _ c.if-not-legible.false,
+      sym c.legible.ensures ∙ c.if-not-legible.false,
       sym c.last_second.ensures ∙ c.if-last_second.false,
     ))
     refl (rw (c.flag_byte.ensures, c.valid.ensures, c.read-flash.ensures))

@@ -34,10 +34,6 @@ offset_bounds-charges-from c = omega arith
 pub slice_bounds-get_halves-count : goal.slice_bounds-get_halves-count
 slice_bounds-get_halves-count c = omega arith
 
--- LOST: slice-bounds-get-halves-start = omega arith
-
--- LOST: slice-bounds-get-halves-end = omega arith
-
 pub get_halves-requires : goal.get_halves-requires
 unfolding page_at
 get_halves-requires c =
