@@ -8,7 +8,7 @@ use Rattle.options.proofs.options_of.Goals as goal
 pub returns : goal.returns
 unfolding options_of
 returns c =
-    let all = c.All-words in
+    let all = c.all_words-given in
     record {
       is = c.ended.ensures ∙ rw all.ensures.is;
       lies = rw c.ended.ensures (ended-lies _ all.result.said all.ensures.said all.result.stage all.ensures.stage);

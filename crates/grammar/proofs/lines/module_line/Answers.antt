@@ -12,4 +12,4 @@ returns-in-Wrong c =
 pub returns-in-Is : goal.returns-in-Is
 unfolding module_line
 returns-in-Is c =
-    rw (← c.word_at-word.ensures.is, sym c.module_in.ensures ∙ c.«module».given.1) c.oscillator_line.ensures
+    rw (← c.word_at-word.ensures.is, sym c.module_in.ensures ∙ c.in-Is.is) c.oscillator_line.ensures

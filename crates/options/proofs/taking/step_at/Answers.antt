@@ -8,7 +8,7 @@ valued-requires c = (c.requires.0, (rw c.in-Wants.is at c.requires.1).0)
 
 pub returns-in-Open : goal.returns-in-Open
 unfolding step_at
-returns-in-Open c = rw (c.named.ensures, c.IsPlace-in.ensures.0, c.in-Open.is)
+returns-in-Open c = rw (c.named.ensures, c.place_in.ensures.0, c.in-Open.is)
 
 pub returns-in-Wants : goal.returns-in-Wants
 unfolding step_at

@@ -10,4 +10,4 @@ pub returns : goal.returns
 returns c =
     let p = c.requires in
     let h = slots-from _ _ p.0 p.3 p.1 in
-    c.exposed_by.ensures ∙ rw c.Cell-at.ensures (sym (look-cell _ _ _ _ h _ p.4))
+    c.exposed_by.ensures ∙ rw c.cell_at-q.ensures (sym (look-cell _ _ _ _ h _ p.4))

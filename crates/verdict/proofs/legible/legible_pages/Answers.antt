@@ -1,12 +1,12 @@
 -- `verdict::legible::legible_pages` meets its contract. The loop's invariant: what was found is the number of legible pages among those
 -- passed. Assumes nothing.
 use mathlib.Core.Path.{◌≡◌, refl, ◌∙◌}
-use mathlib.Core.Logic.{⊎_elim}
 use Prim.Native.Nat.{◌-◌, ◌≤◌}
 use native.Mathlib.Omega.{arith}
 use Rattle.verdict.proofs.Counts.{legible-turn}
 use Rattle.verdict.specs.Legible.{legible_in}
 use Rattle.verdict.proofs.legible.legible_pages.Goals as goal
+use Rattle.verdict.proofs.legible.legible_pages.Goals.{then-legible, else-legible}
 
 pub loop-i-init : goal.loop-i-init
 unfolding legible_in
@@ -33,10 +33,10 @@ loop-i-preserved c =
     let a = c.args in
     let t = legible-turn a.image.now a.first l.i in
     let e = c.legible.ensures in
-    ⊎_elim
-    (λ w. (omega arith, w.1 ∙ rw (t, ← e, w.0.taken) (omega arith), omega arith))
-    (λ w. (omega arith, w.1 ∙ rw (t, ← e, w.0.left) (omega arith), omega arith))
-    c.if-legible.branch
+    elim c.if-legible.branch [
+      then-legible w ↦ (omega arith, w.found-is ∙ rw (t, ← e, w.if-legible.true) (omega arith), omega arith)
+    | else-legible w ↦ (omega arith, w.found-is ∙ rw (t, ← e, w.if-legible.false) (omega arith), omega arith)
+    ]
 
 pub returns : goal.returns
 returns c =
