@@ -15,9 +15,14 @@ ghost use Rattle.std.specs.Prelude.{◌<◌};
 
 use cell::{CELLS, FLASH_SIZE};
 use layout::RECORD_LEN;
+use std::io::Read;
+use std::{fs, io};
 use sum::Table;
 use taking::taken;
 use tally::Tally;
+
+// The file with the list.
+const LIST: &str = "answers";
 
 // Event words for the largest range, block 4, and its end.
 const EVENT_WORDS: usize = 0x7001;
@@ -26,8 +31,9 @@ const EVENT_WORDS: usize = 0x7001;
 const LONGEST: usize = 3195926;
 
 // Reads one row and takes it; the list stops where no whole row is left.
-fn turn(
-    fd: i32,
+fn turn<R: Print, F: Read>(
+    rt: &R,
+    file: &mut F,
     t: Tally,
     record: &mut [u8],
     array: &mut [u8],
@@ -38,12 +44,11 @@ fn turn(
     table: &Table,
 ) -> Tally {
     let mut row = [0u8; row::BYTES];
-    let n = io::read_full(fd, &mut row);
-    if n != row::BYTES {
+    if file.read_exact(&mut row).is_err() {
         return tally::stopped(t);
     }
     taken(
-        t, record, array, charges, events, image, buffer, table, &row,
+        rt, t, record, array, charges, events, image, buffer, table, &row,
     )
 }
 
@@ -56,8 +61,9 @@ fn turns_after(turns: u32, reading: bool) -> u32
 }
 
 // All rows.
-fn replay(
-    fd: i32,
+fn replay<R: Print, F: Read>(
+    rt: &R,
+    file: &mut F,
     record: &mut [u8; RECORD_LEN],
     array: &mut [u8; FLASH_SIZE],
     charges: &mut [u64; CELLS],
@@ -69,14 +75,16 @@ fn replay(
     let mut t = tally::begun();
     let mut turns = u32::MAX;
     while turns > 0 {
-        t = turn(fd, t, record, array, charges, events, image, buffer, table);
+        t = turn(
+            rt, file, t, record, array, charges, events, image, buffer, table,
+        );
         turns = turns_after(turns, t.reading);
     }
     t
 }
 
 // The lent memory: record, array, charge store, event words, image, and the buffer of snapshots.
-fn replay_in_memory(fd: i32) -> Tally {
+fn replay_in_memory<R: Print, F: Read>(rt: &R, file: &mut F) -> Tally {
     let mut record = [0u8; RECORD_LEN];
     let mut array = [0u8; FLASH_SIZE];
     let mut charges = [0u64; CELLS];
@@ -85,7 +93,8 @@ fn replay_in_memory(fd: i32) -> Tally {
     let mut buffer = [0u8; LONGEST];
     let table = sum::table();
     replay(
-        fd,
+        rt,
+        file,
         &mut record,
         &mut array,
         &mut charges,
@@ -97,22 +106,36 @@ fn replay_in_memory(fd: i32) -> Tally {
 }
 
 // Whether bytes come after the last row.
-fn more(fd: i32) -> bool {
+fn more<F: Read>(file: &mut F) -> bool {
     let mut one = [0u8; 1];
-    io::read_full(fd, &mut one) != 0
+    file.read_exact(&mut one).is_ok()
 }
 
-fn main() {
-    let path = b"answers";
-    let fd = os::open_read(path);
-    if fd < 0 {
-        os::fail(path);
-        return;
+// The words of an error without its number.
+fn words_of(said: &str) -> &str {
+    match said.split_once(" (os error ") {
+        Some((words, _)) => words,
+        None => said,
     }
-    let mut t = replay_in_memory(fd);
-    if more(fd) {
-        t.whole = false;
+}
+
+// Why the list can't be read.
+fn complain<R: Eprint + AllocGlobal>(rt: &R, error: io::Error) {
+    if let Ok(said) = format!(in rt.alloc(); "{error}") {
+        let why = words_of(said.as_str());
+        let _ = eprintln!(rt; "{LIST}: {why}");
     }
-    libc::close(fd);
-    tally::told(t);
+}
+
+fn main(rt: HostRuntime) {
+    match fs::open(&rt, LIST) {
+        Ok(mut file) => {
+            let mut t = replay_in_memory(&rt, &mut file);
+            if more(&mut file) {
+                t.whole = false;
+            }
+            tally::told(&rt, t);
+        }
+        Err(error) => complain(&rt, error),
+    }
 }

@@ -1,5 +1,7 @@
 // How an array begins: from firmware, or from a snapshot. Both are bytes at the beginning of one buffer: each row's snapshot is written
 // there, firmware is made there, and patches and cuts change what the next restoring reads.
+ghost use Rattle.std.specs.Prelude.{◌≤◌, length};
+
 use crate::row;
 use crate::row::Row;
 use host::looks::flash_new;
@@ -30,6 +32,13 @@ fn fill(buffer: &mut [u8], size: u32, seed: u32, factor: u32, step: u32) {
     }
 }
 
+// So many bytes of the buffer, as many as it has of them.
+fn up_to(count: u32, buffer: &[u8]) -> usize
+    ensures { result ≤ length buffer.now }
+{
+    (count as usize).min(buffer.len())
+}
+
 pub fn new(
     record: &mut [u8],
     array: &mut [u8],
@@ -45,7 +54,7 @@ pub fn new(
         row::factor(row),
         row::step(row),
     );
-    let end = io::count(size as isize, buffer);
+    let end = up_to(size, buffer);
     let number = flash_new(&buffer[..end], record, array, charges);
     number == row::value(row) as u32
 }
@@ -59,7 +68,7 @@ pub fn restore(
     length: u32,
     row: &Row,
 ) -> bool {
-    let end = io::count(length as isize, buffer);
+    let end = up_to(length, buffer);
     let number = flash_read_snapshot(
         &buffer[..end],
         record,

@@ -81,7 +81,8 @@ fn cut(mut t: Tally, row: &Row) -> Tally {
 }
 
 // One row: its group, its answer, or what it changes in the buffer.
-pub fn taken(
+pub fn taken<R: Print>(
+    rt: &R,
     t: Tally,
     record: &mut [u8],
     array: &mut [u8],
@@ -98,7 +99,7 @@ pub fn taken(
     }
     let next = tally::counted(t, table, row);
     if letter == row::GROUP {
-        return tally::opened(next, row);
+        return tally::opened(rt, next, row);
     }
     if letter == row::PATCH {
         patch(buffer, row);

@@ -4,8 +4,6 @@ ghost use Rattle.std.specs.Prelude.{◌≤◌};
 use crate::row;
 use crate::row::Row;
 use crate::sum::{ALL_BITS, Table, fed_bytes};
-use io::{print_decimal, print_hex, write_all};
-use libc::STDOUT_FILENO;
 use std::num::wrapping_add_u64;
 
 #[derive(Clone, Copy)]
@@ -78,38 +76,38 @@ pub fn ended(mut t: Tally, table: &Table, row: &Row) -> Tally {
     t
 }
 
-fn say(text: &[u8]) {
-    write_all(STDOUT_FILENO, text);
+fn say<R: Print>(rt: &R, text: &[u8]) {
+    let _ = rt.write_all(text);
 }
 
-fn say_number(number: u64) {
-    print_decimal(STDOUT_FILENO, number);
+fn say_number<R: Print>(rt: &R, number: u64) {
+    let _ = rt.print(number);
 }
 
-fn say_differences(differ: u64, first: u64) {
-    say(b" answers, of which ");
-    say_number(differ);
-    say(b" differ, the first in row ");
-    say_number(first);
-    say(b"\n");
+fn say_differences<R: Print>(rt: &R, differ: u64, first: u64) {
+    say(rt, b" answers, of which ");
+    say_number(rt, differ);
+    say(rt, b" differ, the first in row ");
+    say_number(rt, first);
+    say(rt, b"\n");
 }
 
 // The rest of a group's line; nothing before the first group.
-fn say_group(t: Tally) {
+fn say_group<R: Print>(rt: &R, t: Tally) {
     if t.groups == 0 {
         return;
     }
-    say_number(t.group_answers);
+    say_number(rt, t.group_answers);
     if t.group_differ == 0 {
-        say(b" answers as recorded\n");
+        say(rt, b" answers as recorded\n");
     } else {
-        say_differences(t.group_differ, t.first);
+        say_differences(rt, t.group_differ, t.first);
     }
 }
 
 // The group's answers go into the total.
-fn closed(mut t: Tally) -> Tally {
-    say_group(t);
+fn closed<R: Print>(rt: &R, mut t: Tally) -> Tally {
+    say_group(rt, t);
     t.answers = wrapping_add_u64(t.answers, t.group_answers);
     t.differ = wrapping_add_u64(t.differ, t.group_differ);
     t.group_answers = 0;
@@ -125,41 +123,42 @@ fn name_length(row: &Row) -> usize
 }
 
 // The next group: its line begins with its name.
-pub fn opened(t: Tally, row: &Row) -> Tally {
-    let mut next = closed(t);
+pub fn opened<R: Print>(rt: &R, t: Tally, row: &Row) -> Tally {
+    let mut next = closed(rt, t);
     next.groups = wrapping_add_u64(next.groups, 1);
     let end = 2 + name_length(row);
     let bytes: &[u8] = row;
-    say(&bytes[2..end]);
-    say(b": ");
+    say(rt, &bytes[2..end]);
+    say(rt, b": ");
     next
 }
 
-fn say_counts(t: Tally) {
-    say(b"total: ");
-    say_number(t.groups);
-    say(b" groups, ");
-    say_number(t.answers);
-    say(b" answers, ");
-    say_number(t.differ);
-    say(b" differ; ");
+fn say_counts<R: Print>(rt: &R, t: Tally) {
+    say(rt, b"total: ");
+    say_number(rt, t.groups);
+    say(rt, b" groups, ");
+    say_number(rt, t.answers);
+    say(rt, b" answers, ");
+    say_number(rt, t.differ);
+    say(rt, b" differ; ");
 }
 
-fn say_list(t: Tally) {
-    say(b"list of ");
-    say_number(t.rows);
-    say(b" rows, sum ");
-    print_hex(STDOUT_FILENO, t.sum as u64, 8);
+fn say_list<R: Print>(rt: &R, t: Tally) {
+    say(rt, b"list of ");
+    say_number(rt, t.rows);
+    say(rt, b" rows, sum ");
+    let sum = t.sum;
+    let _ = print!(rt; "{sum:08x}");
     if t.whole {
-        say(b", whole\n");
+        say(rt, b", whole\n");
     } else {
-        say(b", NOT WHOLE\n");
+        say(rt, b", NOT WHOLE\n");
     }
 }
 
 // The last lines.
-pub fn told(t: Tally) {
-    let all = closed(t);
-    say_counts(all);
-    say_list(all);
+pub fn told<R: Print>(rt: &R, t: Tally) {
+    let all = closed(rt, t);
+    say_counts(rt, all);
+    say_list(rt, all);
 }
