@@ -8,4 +8,4 @@ use Rattle.summary.proofs.judging.put_judged.Goals as goal
 pub returns : goal.returns
 unfolding judged_text
 returns c =
-    rw (← c.legible_among-legible.ensures) (puts-append _ _ _ _ _ _ _ _ c.put-Only.ensures c.verdict.ensures)
+    rw (← c.legible_among-legible.ensures) (puts-append _ _ _ _ _ _ _ _ c.put_only-told.ensures c.verdict.ensures)
