@@ -4,18 +4,18 @@ use borrow.Author.Rules.{rules}
 use Rattle.session.proofs.turns.turn.Goals as goal
 
 pub returns-then-course : goal.returns-then-course
-returns-then-course c = (c.requires, goes-nowhere _ _ _)
+returns-then-course g c = (c.requires, goes-nowhere _ _ _)
 
 pub next_step-requires : goal.next_step-requires
-next_step-requires c = (c.requires, c.if-course.false, c.can_step.ensures.can c.if-can_step.true)
+next_step-requires g c = (c.requires, c.if-course.false, c.can_step.ensures.can c.if-can_step.true)
 
 pub next_piece-requires : goal.next_piece-requires
-next_piece-requires c =
+next_piece-requires g c =
     let none = c.can_step.ensures.stays c.if-can_step.false in
     (c.requires, none.0, none.1, c.if-run.true)
 
 pub returns-then-run : goal.returns-then-run
-returns-then-run c = let moved = c.next_piece.ensures in (moved.stands, moved.goes _ _ _)
+returns-then-run g c = let moved = c.next_piece.ensures in (moved.stands, moved.goes _ _ _)
 
 pub returns : goal.returns
-returns c = (c.requires, goes-nowhere _ _ _)
+returns g c = (c.requires, goes-nowhere _ _ _)
