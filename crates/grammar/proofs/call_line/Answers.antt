@@ -1,7 +1,6 @@
 -- `grammar::call_line` meets its contract, by the word that it finds. Assumes nothing.
 use borrow.Author.Tests.{eq-eqb, ne_eqb}
 use Rattle.grammar.specs.Grammar.{call_line}
-use borrow.Author.Rules.{rules}
 use Rattle.grammar.proofs.call_line.Goals as goal
 
 pub returns-then-from-to : goal.returns-then-from-to

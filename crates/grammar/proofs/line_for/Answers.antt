@@ -1,6 +1,5 @@
 -- `grammar::line_for` meets its contract: each arm knows the call. Assumes nothing.
 use Rattle.grammar.specs.Grammar.{line_for}
-use borrow.Author.Rules.{rules}
 use Rattle.grammar.proofs.line_for.Goals as goal
 
 pub returns-in-Write : goal.returns-in-Write

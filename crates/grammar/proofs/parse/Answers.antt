@@ -2,7 +2,6 @@
 use mathlib.Core.Path.{sym, ◌∙◌}
 use borrow.Author.Tests.{eq-eqb, ne_eqb}
 use Rattle.grammar.specs.Grammar.{line_of}
-use borrow.Author.Rules.{rules}
 use Rattle.grammar.proofs.parse.Goals as goal
 
 pub returns-then-from-to : goal.returns-then-from-to

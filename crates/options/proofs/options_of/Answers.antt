@@ -1,6 +1,5 @@
 -- `options::options_of` meets its contract: what all words give lies in the text, and so does what comes of it. Assumes nothing.
 use mathlib.Core.Path.{◌∙◌}
-use borrow.Author.Rules.{rules}
 use Rattle.options.specs.Options.{options_of}
 use Rattle.options.proofs.Lying.{ended-lies}
 use Rattle.options.proofs.options_of.Goals as goal

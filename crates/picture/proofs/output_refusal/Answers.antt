@@ -1,6 +1,5 @@
 -- `picture::output_refusal` meets its contract: the room is checked after the checks of a look.
 -- Assumes nothing.
-use borrow.Author.Rules.{rules}
 use Rattle.picture.proofs.Roomed.{refused-before, too_short, long-enough}
 use Rattle.picture.proofs.output_refusal.Goals as goal
 

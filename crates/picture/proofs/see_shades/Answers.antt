@@ -1,7 +1,6 @@
 -- `picture::see_shades` meets its contract: a look that is not refused is one at memory that fits, with room for the shades.
 -- Assumes nothing.
 use mathlib.Core.Path.{sym, ◌∙◌}
-use borrow.Author.Rules.{rules}
 use lib.ListN.{length}
 use Rattle.picture.proofs.Roomed.{ready, output-stays}
 use Rattle.picture.specs.Outputs.{output_refusal}

@@ -2,7 +2,6 @@
 use mathlib.Core.Path.{sym, ◌∙◌}
 use borrow.Author.Tests.{eq-eqb, ne_eqb}
 use Rattle.grammar.specs.Grammar.{cell_line}
-use borrow.Author.Rules.{rules}
 use Rattle.grammar.proofs.lines.cell_line.Goals as goal
 
 pub returns-then-from-to : goal.returns-then-from-to

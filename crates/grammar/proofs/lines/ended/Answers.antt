@@ -1,7 +1,6 @@
 -- `grammar::lines::ended` meets its contract, by the word that it finds. Assumes nothing.
 use borrow.Author.Tests.{eq-eqb, ne_eqb}
 use Rattle.grammar.specs.Grammar.{ended}
-use borrow.Author.Rules.{rules}
 use Rattle.grammar.proofs.lines.ended.Goals as goal
 
 pub returns-then-from-to : goal.returns-then-from-to

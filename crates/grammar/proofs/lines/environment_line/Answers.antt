@@ -1,7 +1,6 @@
 -- `grammar::lines::environment_line` meets its contract, by the word that it finds and what that means. Assumes nothing.
 use mathlib.Core.Path.{sym, ◌∙◌}
 use Rattle.grammar.specs.Grammar.{environment_line}
-use borrow.Author.Rules.{rules}
 use Rattle.grammar.proofs.lines.environment_line.Goals as goal
 
 pub returns-in-Wrong : goal.returns-in-Wrong

@@ -1,7 +1,6 @@
 -- `grammar::lines::word_line` meets its contract, by the word that it finds and what that means. Assumes nothing.
 use mathlib.Core.Path.{sym, ◌∙◌}
 use Rattle.grammar.specs.Grammar.{word_line}
-use borrow.Author.Rules.{rules}
 use Rattle.grammar.proofs.lines.word_line.Goals as goal
 
 pub returns-in-Wrong : goal.returns-in-Wrong

@@ -1,6 +1,5 @@
 -- `options::ending::accepted` meets its contract: each field is what the definition says of its place. Assumes nothing.
 use Rattle.options.specs.Options.{accepted}
-use borrow.Author.Rules.{rules}
 use Rattle.options.proofs.ending.accepted.Goals as goal
 
 pub time_asked-requires : goal.time_asked-requires

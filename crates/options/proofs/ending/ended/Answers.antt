@@ -1,6 +1,5 @@
 -- `options::ending::ended` meets its contract: each arm knows the stage, by which the definition computes. Assumes nothing.
 use Rattle.options.specs.Options.{ended}
-use borrow.Author.Rules.{rules}
 use Rattle.options.proofs.ending.ended.Goals as goal
 
 pub returns-in-Open : goal.returns-in-Open

@@ -1,6 +1,5 @@
 -- `options::ending::pages_asked` meets its contract: each branch is one test of the definition. Assumes nothing.
 use Rattle.options.specs.Options.{pages_asked}
-use borrow.Author.Rules.{rules}
 use Rattle.options.proofs.ending.pages_asked.Goals as goal
 
 pub returns-then-blocked : goal.returns-then-blocked

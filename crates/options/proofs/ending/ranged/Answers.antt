@@ -3,7 +3,6 @@
 use Rattle.options.proofs.Lying.{block-below, address_below}
 use borrow.Author.Tests.{lt-ltb, le-ltb}
 use Rattle.options.specs.Options.{ranged}
-use borrow.Author.Rules.{rules}
 use Rattle.options.proofs.ending.ranged.Goals as goal
 
 pub returns-then-by_block-by_from : goal.returns-then-by_block-by_from

@@ -1,5 +1,4 @@
 -- `options::ending::time_asked` meets its contract, by what it calls. Assumes nothing.
-use borrow.Author.Rules.{rules}
 use Rattle.options.proofs.ending.time_asked.Goals as goal
 
 pub returns : goal.returns

@@ -1,6 +1,5 @@
 -- `options::ending::whole` meets its contract: each branch is one test of the definition. Assumes nothing.
 use Rattle.options.specs.Options.{whole}
-use borrow.Author.Rules.{rules}
 use Rattle.options.proofs.ending.whole.Goals as goal
 
 pub returns-then-not-is_given : goal.returns-then-not-is_given

@@ -1,5 +1,4 @@
 -- `options::ending::word_of` meets its contract, by what it calls. Assumes nothing.
-use borrow.Author.Rules.{rules}
 use Rattle.options.proofs.ending.word_of.Goals as goal
 
 pub returns : goal.returns

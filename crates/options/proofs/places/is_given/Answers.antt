@@ -1,5 +1,4 @@
 -- `options::places::is_given` meets its contract, by what it calls. Assumes nothing.
-use borrow.Author.Rules.{rules}
 use Rattle.options.proofs.places.is_given.Goals as goal
 
 pub returns : goal.returns

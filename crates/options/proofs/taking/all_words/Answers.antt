@@ -1,10 +1,8 @@
 -- `options::taking::all_words` meets its contract. The loop's invariant: what the words up to the place give, with those that follow, is
 -- what all words give. Assumes nothing.
-use Prim.Native.Nat.{◌-◌}
 use mathlib.Core.Path.{◌∙◌}
 use native.Mathlib.Omega.{arith}
-use lib.ListN.{length}
-use Rattle.options.proofs.Reading.{Reading, read_none, read_word, read-on, read_all}
+use Rattle.options.proofs.Reading.{read_none, read_word, read-on, read_all}
 use Rattle.options.proofs.taking.all_words.Goals as goal
 use Rattle.options.proofs.taking.all_words.Goals.{then-args-at-eq0, else-args-at-eq0}
 
@@ -33,10 +31,10 @@ loop-at-preserved c =
     let l = c.loop-at in
     let x = c.args in
     elim c.if-args-at-eq0.branch [
-      then-args-at-eq0 w ↦
-        read_word x.args.now l.given l.from l.at l.invariant (omega arith) w.if-args-at-eq0.true _ _ (w.given-is ∙ w.step_at-given.ensures) w.from-is
-    | else-args-at-eq0 w ↦
-        read-on x.args.now l.given l.from l.at l.invariant (omega arith) w.if-args-at-eq0.false _ _ w.given-is w.from-is
+      | then-args-at-eq0 w ↦
+          read_word x.args.now l.given l.from l.at l.invariant (omega arith) w.if-args-at-eq0.true _ _ (w.given-is ∙ w.step_at-given.ensures) w.from-is
+      | else-args-at-eq0 w ↦
+          read-on x.args.now l.given l.from l.at l.invariant (omega arith) w.if-args-at-eq0.false _ _ w.given-is w.from-is
     ]
 
 pub returns : goal.returns

@@ -1,11 +1,8 @@
 -- `options::taking::all_words` meets its contract. The loop's invariant: what the words up to the place give, with those that follow, is
 -- what all words give. Assumes nothing.
 use Prim.Native.Nat.{◌-◌}
-use mathlib.Core.Logic.{⊎_elim}
-use mathlib.Core.Path.{◌∙◌}
-use native.Mathlib.Omega.{arith}
 use lib.ListN.{length}
-use Rattle.options.proofs.Reading.{Reading, read_none, read_word, read-on, read_all}
+use Rattle.options.proofs.Reading.{Reading}
 use Rattle.options.proofs.taking.all_words.Given as goal
 
 abbrev pub invariant-loop-at : goal.invariant-loop-at

@@ -1,6 +1,5 @@
 -- `options::taking::dashed` meets its contract: the first byte of a stretch stands where it begins. Assumes nothing.
 use Rattle.options.proofs.Words.{dash-first, none_first}
-use borrow.Author.Rules.{rules}
 use Rattle.options.proofs.taking.dashed.Goals as goal
 
 pub returns-then-from-word : goal.returns-then-from-word

@@ -1,7 +1,6 @@
 -- `options::taking::named` meets its contract: each branch is one test of the definition. Assumes nothing.
 use borrow.Author.Tests.{ne_eqb}
 use Rattle.options.specs.Arguments.{named}
-use borrow.Author.Rules.{rules}
 use Rattle.options.proofs.taking.named.Goals as goal
 
 pub returns-then-p-eq-HELP : goal.returns-then-p-eq-HELP

@@ -1,7 +1,6 @@
 -- `options::taking::option` meets its contract: each branch is one test of the definition. Assumes nothing.
 use borrow.Author.Tests.{lt-ltb, le-ltb}
 use Rattle.options.specs.Arguments.{option}
-use borrow.Author.Rules.{rules}
 use Rattle.options.proofs.taking.option.Goals as goal
 
 pub returns-then-is_given : goal.returns-then-is_given

@@ -2,7 +2,6 @@
 use Rattle.options.proofs.Words.{place-within}
 use Rattle.options.specs.Arguments.{names}
 use Rattle.words.specs.Text.{split, split_before}
-use borrow.Author.Rules.{rules}
 use Rattle.options.proofs.taking.place_in.Goals as goal
 
 pub returns : goal.returns

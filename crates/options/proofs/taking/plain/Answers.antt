@@ -1,6 +1,5 @@
 -- `options::taking::plain` meets its contract: each branch is one test of the definition. Assumes nothing.
 use Rattle.options.specs.Arguments.{plain}
-use borrow.Author.Rules.{rules}
 use Rattle.options.proofs.taking.plain.Goals as goal
 
 pub returns-then-dashed : goal.returns-then-dashed

@@ -1,6 +1,5 @@
 -- `options::taking::step_at` meets its contract: each arm knows the stage, by which the definition computes. Assumes nothing.
 use Rattle.options.specs.Arguments.{step_at}
-use borrow.Author.Rules.{rules}
 use Rattle.options.proofs.taking.step_at.Goals as goal
 
 pub valued-requires : goal.valued-requires

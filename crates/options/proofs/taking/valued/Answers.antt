@@ -1,6 +1,5 @@
 -- `options::taking::valued` meets its contract: each branch is one test of the definition. Assumes nothing.
 use Rattle.options.specs.Arguments.{valued}
-use borrow.Author.Rules.{rules}
 use Rattle.options.proofs.taking.valued.Goals as goal
 
 pub returns-then-fits : goal.returns-then-fits

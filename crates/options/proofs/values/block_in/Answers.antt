@@ -1,5 +1,4 @@
 -- `options::values::block_in` meets its contract, by what it calls. Assumes nothing.
-use borrow.Author.Rules.{rules}
 use Rattle.options.proofs.values.block_in.Goals as goal
 
 pub returns : goal.returns

@@ -1,7 +1,6 @@
 -- `options::values::fits` meets its contract: each branch is one test of the definition. Assumes nothing.
 use Rattle.options.specs.Arguments.{fits}
 use borrow.Author.Tests.{ne_eqb}
-use borrow.Author.Rules.{rules}
 use Rattle.options.proofs.values.fits.Goals as goal
 
 pub returns-then-p-eq-BLOCK : goal.returns-then-p-eq-BLOCK

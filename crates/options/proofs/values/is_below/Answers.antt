@@ -1,5 +1,4 @@
 -- `options::values::is_below` meets its contract: each arm knows the variant, by which the definition computes. Assumes nothing.
-use borrow.Author.Rules.{rules}
 use Rattle.options.proofs.values.is_below.Goals as goal
 
 pub returns-in-Is : goal.returns-in-Is

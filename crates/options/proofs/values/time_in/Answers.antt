@@ -1,5 +1,4 @@
 -- `options::values::time_in` meets its contract: each arm knows the variant, by which the definition computes. Assumes nothing.
-use borrow.Author.Rules.{rules}
 use Rattle.options.proofs.values.time_in.Goals as goal
 
 pub returns-in-At : goal.returns-in-At

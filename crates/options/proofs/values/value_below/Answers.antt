@@ -1,6 +1,5 @@
 -- `options::values::value_below` meets its contract: each arm knows the variant, by which the definition computes. Assumes nothing.
 use borrow.Author.Tests.{lt-ltb, le-ltb}
-use borrow.Author.Rules.{rules}
 use Rattle.options.proofs.values.value_below.Goals as goal
 
 pub returns-then-v-bound : goal.returns-then-v-bound

@@ -1,7 +1,6 @@
 -- `picture::cells::cell_after` meets its contract: what an exposure does to one cell needs sound slots alone.
 -- Assumes nothing.
 use mathlib.Core.Path.{sym, ◌∙◌}
-use borrow.Author.Rules.{rules}
 use Rattle.flash.proofs.Look.{look-cell}
 use Rattle.settle.proofs.Slots.{slots-from}
 use Rattle.picture.proofs.cells.cell_after.Goals as goal

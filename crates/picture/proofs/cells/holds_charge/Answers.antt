@@ -1,13 +1,12 @@
 -- `picture::cells::holds_charge` meets its contract. The loop's invariant: the page holds a charge if a cell not yet passed does.
 -- Assumes nothing.
 use mathlib.Core.Path.{◌≡◌, sym, ◌∙◌}
-use Prim.Native.Nat.{◌+◌, ◌-◌, ◌*◌, ◌≤◌}
+use Prim.Native.Nat.{◌-◌}
 use native.Mathlib.Nat.{add-zero}
 use native.Mathlib.Omega.{arith}
 use borrow.Author.Tests.{lt-ltb, le-ltb}
-use Rattle.picture.proofs.Held.{after, holds-turn}
+use Rattle.picture.proofs.Held.{holds-turn}
 use Rattle.picture.specs.Marks.{holds_charge}
-use Rattle.settle.specs.Pages.{cell_at}
 use Rattle.picture.proofs.cells.holds_charge.Goals as goal
 
 pub overflow_mul-start : goal.overflow_mul-start

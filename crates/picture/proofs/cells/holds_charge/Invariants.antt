@@ -1,11 +1,8 @@
 -- `picture::cells::holds_charge` meets its contract. The loop's invariant: the page holds a charge if a cell not yet passed does.
 -- Assumes nothing.
-use mathlib.Core.Path.{◌≡◌, sym, ◌∙◌}
+use mathlib.Core.Path.{◌≡◌}
 use Prim.Native.Nat.{◌+◌, ◌-◌, ◌*◌, ◌≤◌}
-use native.Mathlib.Nat.{add-zero}
-use native.Mathlib.Omega.{arith}
-use borrow.Author.Tests.{lt-ltb, le-ltb}
-use Rattle.picture.proofs.Held.{after, holds-turn}
+use Rattle.picture.proofs.Held.{after}
 use Rattle.picture.specs.Marks.{holds_charge}
 use Rattle.settle.specs.Pages.{cell_at}
 use Rattle.picture.proofs.cells.holds_charge.Given as goal

@@ -2,7 +2,6 @@
 -- Assumes nothing.
 use mathlib.Core.Path.{sym, ap, ◌∙◌}
 use Prim.Native.Nat.{◌*◌}
-use borrow.Author.Rules.{rules}
 use Rattle.picture.specs.Marks.{holds_charge, charged_at}
 use Rattle.flash.specs.Looking.{charge_at}
 use Rattle.settle.specs.Pages.{Cells, cell_at}

@@ -1,8 +1,6 @@
 -- `picture::marks::mark` meets its contract, from what its two tests ensure.
 -- Assumes nothing.
 use mathlib.Core.Path.{sym, ◌∙◌}
-use borrow.Author.Tests.{not-true, not-false}
-use borrow.Author.Rules.{rules}
 use Rattle.picture.specs.Marks.{mark_at}
 use Rattle.picture.proofs.marks.mark.Goals as goal
 

@@ -1,12 +1,9 @@
 -- `picture::marks::write_marks` meets its contract. The loop's invariant: as many marks are written as pages were passed.
 -- Assumes nothing.
 use mathlib.Core.Path.{◌≡◌, ap, ◌∙◌}
-use Prim.Native.Nat.{◌-◌, ◌≤◌}
 use native.Mathlib.Omega.{arith}
 use lib.ListN.{length}
 use Rattle.picture.proofs.Written.{length-written, written_none, written-turn}
-use Rattle.picture.specs.Marks.{mark_at}
-use Rattle.picture.specs.Outputs.{written}
 use Rattle.picture.proofs.marks.write_marks.Goals as goal
 
 pub loop-page-init : goal.loop-page-init

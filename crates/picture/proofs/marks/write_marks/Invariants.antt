@@ -1,10 +1,7 @@
 -- `picture::marks::write_marks` meets its contract. The loop's invariant: as many marks are written as pages were passed.
 -- Assumes nothing.
-use mathlib.Core.Path.{◌≡◌, ap, ◌∙◌}
+use mathlib.Core.Path.{◌≡◌}
 use Prim.Native.Nat.{◌-◌, ◌≤◌}
-use native.Mathlib.Omega.{arith}
-use lib.ListN.{length}
-use Rattle.picture.proofs.Written.{length-written, written_none, written-turn}
 use Rattle.picture.specs.Marks.{mark_at}
 use Rattle.picture.specs.Outputs.{written}
 use Rattle.picture.proofs.marks.write_marks.Given as goal

@@ -1,6 +1,5 @@
 -- `picture::shades::shade` meets its contract: the charge has as many whole steps as the shade or one fewer.
 -- Assumes nothing.
-use borrow.Author.Rules.{rules}
 use Rattle.picture.proofs.Steps.{shade-full, shade-next, shade-low}
 use Rattle.picture.proofs.shades.shade.Goals as goal
 

@@ -1,15 +1,10 @@
 -- `picture::shades::write_exposed` meets its contract. The loop's invariant: as many shades are written as cells were passed.
 -- Assumes nothing.
 use mathlib.Core.Path.{◌≡◌, ap, ◌∙◌}
-use Prim.Native.Nat.{◌-◌, ◌≤◌}
 use native.Mathlib.Omega.{arith}
-use borrow.Author.Rules.{rules}
 use lib.ListN.{length}
 use Rattle.picture.proofs.Written.{length-written, written_none, written-turn}
-use Rattle.picture.proofs.Held.{after}
 use Rattle.picture.specs.Shades.{shade_of}
-use Rattle.picture.specs.Outputs.{written}
-use Rattle.settle.specs.Pages.{cell_at}
 use Rattle.picture.proofs.shades.write_exposed.Goals as goal
 
 pub loop-i-init : goal.loop-i-init

@@ -1,11 +1,7 @@
 -- `picture::shades::write_exposed` meets its contract. The loop's invariant: as many shades are written as cells were passed.
 -- Assumes nothing.
-use mathlib.Core.Path.{◌≡◌, ap, ◌∙◌}
+use mathlib.Core.Path.{◌≡◌}
 use Prim.Native.Nat.{◌-◌, ◌≤◌}
-use native.Mathlib.Omega.{arith}
-use borrow.Author.Rules.{rules}
-use lib.ListN.{length}
-use Rattle.picture.proofs.Written.{length-written, written_none, written-turn}
 use Rattle.picture.proofs.Held.{after}
 use Rattle.picture.specs.Shades.{shade_of}
 use Rattle.picture.specs.Outputs.{written}

@@ -1,7 +1,6 @@
 -- `picture::shades::write_shades` meets its contract: a settle is the look's exposure.
 -- Assumes nothing.
 use mathlib.Core.Path.{sym, ap, ◌∙◌}
-use borrow.Author.Rules.{rules}
 use Rattle.picture.specs.Shades.{shade_of, shade_at}
 use Rattle.picture.specs.Outputs.{written}
 use Rattle.flash.specs.Looking.{charge_at}

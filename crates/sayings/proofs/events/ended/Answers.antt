@@ -1,6 +1,5 @@
 -- `sayings::events::ended` meets its contract, by what its callees read of the word.
 -- Assumes nothing.
-use borrow.Author.Rules.{rules}
 use Rattle.sayings.proofs.events.ended.Goals as goal
 
 pub returns : goal.returns

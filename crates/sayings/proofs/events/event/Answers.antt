@@ -1,7 +1,6 @@
 -- `sayings::events::event` meets its contract: three texts, one after the other.
 -- Assumes nothing.
 use Rattle.text.proofs.Joined.{puts-append}
-use borrow.Author.Rules.{rules}
 use Rattle.sayings.proofs.events.event.Goals as goal
 
 pub returns : goal.returns

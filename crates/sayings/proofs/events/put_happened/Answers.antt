@@ -2,7 +2,6 @@
 -- Assumes nothing.
 use mathlib.Core.Path.{sym, ◌∙◌}
 use borrow.Author.Tests.{eq-eqb, ne_eqb}
-use borrow.Author.Rules.{rules}
 use Rattle.sayings.proofs.events.put_happened.Goals as goal
 
 pub returns-then-kind_in-eq-BYTE : goal.returns-then-kind_in-eq-BYTE

@@ -3,7 +3,6 @@
 use mathlib.Core.List.{append-nil}
 use borrow.Author.Tests.{eq-eqb, ne_eqb}
 use Rattle.text.proofs.Joined.{puts-append}
-use borrow.Author.Rules.{rules}
 use Rattle.sayings.proofs.times.instant.Goals as goal
 
 pub returns-then-fraction-eq0 : goal.returns-then-fraction-eq0

@@ -1,6 +1,5 @@
 -- `sayings::times::put_fraction` meets its contract: what the fraction is told to be picks the definition's case.
 -- Assumes nothing.
-use borrow.Author.Rules.{rules}
 use Rattle.sayings.proofs.times.put_fraction.Goals as goal
 
 pub returns-in-Micros : goal.returns-in-Micros

@@ -1,10 +1,7 @@
 -- `verdict::blocks::block_of` meets its contract. The loop's invariant: the page lies in none of the blocks passed, so its block is the first
 -- of those left. Assumes nothing.
-use mathlib.Core.Path.{◌≡◌, refl, sym, ◌∙◌}
+use mathlib.Core.Path.{◌≡◌}
 use Prim.Native.Nat.{◌-◌, ◌≤◌}
-use native.Mathlib.Omega.{arith}
-use borrow.Author.Rules.{rules}
-use Rattle.verdict.proofs.Places.{block-turn}
 use Rattle.verdict.specs.Blocks.{block_from, block_of}
 use Rattle.verdict.proofs.blocks.block_of.Given as goal
 

@@ -1,7 +1,6 @@
 -- `verdict::blocks::pages_touched` meets its contract, by its definition.
 -- Assumes nothing.
 use mathlib.Core.Path.{refl}
-use borrow.Author.Rules.{rules}
 use Rattle.verdict.specs.Blocks.{pages_touched}
 use Rattle.verdict.proofs.blocks.pages_touched.Goals as goal
 

@@ -1,12 +1,8 @@
 -- `verdict::legible::legible` meets its contract. The loop's invariant: the page is blank if the bytes not yet passed are.
 -- Assumes nothing.
-use mathlib.Core.Path.{◌≡◌, sym, ◌∙◌}
+use mathlib.Core.Path.{◌≡◌}
 use mathlib.Core.Bool.{not}
 use Prim.Native.Nat.{◌+◌, ◌-◌, ◌*◌, ◌≤◌}
-use native.Mathlib.Nat.{add-zero}
-use native.Mathlib.Omega.{arith}
-use borrow.Author.Tests.{eq-eqb, ne_eqb}
-use Rattle.flash.proofs.Look.{blank_turn}
 use Rattle.flash.specs.Looking.{all_blank}
 use Rattle.verdict.specs.Legible.{legible}
 use Rattle.verdict.proofs.legible.legible.Given as goal

@@ -1,7 +1,6 @@
 -- `verdict::legible::legible_pages` meets its contract. The loop's invariant: what was found is the number of legible pages among those
 -- passed. Assumes nothing.
 use mathlib.Core.Path.{◌≡◌, refl, ◌∙◌}
-use Prim.Native.Nat.{◌-◌, ◌≤◌}
 use native.Mathlib.Omega.{arith}
 use Rattle.verdict.proofs.Counts.{legible-turn}
 use Rattle.verdict.specs.Legible.{legible_in}
@@ -34,8 +33,8 @@ loop-i-preserved c =
     let t = legible-turn a.image.now a.first l.i in
     let e = c.legible.ensures in
     elim c.if-legible.branch [
-      then-legible w ↦ (omega arith, w.found-is ∙ rw (t, ← e, w.if-legible.true) (omega arith), omega arith)
-    | else-legible w ↦ (omega arith, w.found-is ∙ rw (t, ← e, w.if-legible.false) (omega arith), omega arith)
+      | then-legible w ↦ (omega arith, w.found-is ∙ rw (t, ← e, w.if-legible.true) (omega arith), omega arith)
+      | else-legible w ↦ (omega arith, w.found-is ∙ rw (t, ← e, w.if-legible.false) (omega arith), omega arith)
     ]
 
 pub returns : goal.returns

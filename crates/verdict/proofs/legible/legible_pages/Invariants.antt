@@ -1,10 +1,7 @@
 -- `verdict::legible::legible_pages` meets its contract. The loop's invariant: what was found is the number of legible pages among those
 -- passed. Assumes nothing.
-use mathlib.Core.Path.{◌≡◌, refl, ◌∙◌}
-use mathlib.Core.Logic.{⊎_elim}
+use mathlib.Core.Path.{◌≡◌}
 use Prim.Native.Nat.{◌-◌, ◌≤◌}
-use native.Mathlib.Omega.{arith}
-use Rattle.verdict.proofs.Counts.{legible-turn}
 use Rattle.verdict.specs.Legible.{legible_in}
 use Rattle.verdict.proofs.legible.legible_pages.Given as goal
 

@@ -1,6 +1,5 @@
 -- `verdict::pulses::tallied` meets its contract: each kind has its own counts.
 -- Assumes nothing.
-use borrow.Author.Rules.{rules}
 use Rattle.verdict.specs.Pulses.{tallied}
 use Rattle.verdict.proofs.pulses.tallied.Goals as goal
 
