@@ -46,7 +46,11 @@ fn written<F: Write + OpenFile>(file: &mut F, head: &[u8], rest: &[u8]) -> bool 
 // Makes a file of two parts, where there is none of that name. On false there is none of this.
 fn made<R: Files>(rt: &R, name: &str, head: &[u8], rest: &[u8]) -> bool {
     let mut whole = false;
-    match OpenOptions::new().write(true).create_new(true).open(rt, name) {
+    match OpenOptions::new()
+        .write(true)
+        .create_new(true)
+        .open(rt, name)
+    {
         Ok(mut file) => whole = written(&mut file, head, rest),
         Err(_) => return false,
     }

@@ -47,8 +47,8 @@ loop-page-preserved c =
     let kept = look-kept-page x.pulse x.latch.now (span x.exposure) cells l.page in
     let written : c.if-reaches.out ≡ sets l.out n (take 128 (drop n image)) =
     elim c.if-reaches.branch [
-      then-reaches w ↦ w.out-is ∙ w.write_exposed.ensures
-    | else-reaches w ↦ w.out-is ∙ w.write_stored.ensures ∙ ap (sets l.out n) (kept (sym c.reaches.ensures ∙ w.if-reaches.false))
+      | then-reaches w ↦ w.out-is ∙ w.write_exposed.ensures
+      | else-reaches w ↦ w.out-is ∙ w.write_stored.ensures ∙ ap (sets l.out n) (kept (sym c.reaches.ensures ∙ w.if-reaches.false))
     ] in
     (omega arith, rw next (sets_more _ _ _ _ n 128 l.invariant.1 written (rw expose-array-length (omega arith))))
 
