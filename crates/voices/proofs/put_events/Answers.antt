@@ -21,7 +21,7 @@ loop-i-preserved c =
     let words = c.args.words.now in
     let inside : c.loop-i.i < length words = search rules in (
       search rules,
-      c.event-end.auto.0 ∙ c.loop-i.invariant.1,
+      c.event-end.auto.out ∙ c.loop-i.invariant.1,
       rw (add-one, events-snoc _ words c.loop-i.i inside) (puts-append _ _ _ _ _ _ _ _ c.loop-i.invariant.2 c.event-end.ensures),
     )
 
