@@ -16,9 +16,8 @@ returns-in-Call c = λ events. absurd (cons≢nil (sym (ap calls_of c.in-Call.is
 
 pub returns-in-Look : goal.returns-in-Look
 returns-in-Look c = λ events.
-    let due = c.due-1.given in
-    rw due.1
-    (look-due c.args.manner c.args.number c.args.course _ events _ due.0.1.0 due.0.0 c.requires.1 (c.look.ensures events))
+    rw c.in-Look.is
+    (look-due c.args.manner c.args.number c.args.course _ events _ c.in-Look.looking c.in-Look.time c.requires.1 (c.look.ensures events))
 
 pub returns-in-Wrong : goal.returns-in-Wrong
 returns-in-Wrong c = λ events.
