@@ -37,6 +37,7 @@ fn amount(direction: Direction, exposure: Duration) -> u64
 
 // A cell's charge moved by an amount; `latched` is the cell's latched bit. From which charge on a cell gets full depends on the amount alone,
 // so that a loop over cells works it out once.
+#[tactic(auto, unfolding(cell::specs::Cell::moved))]
 fn moved(direction: Direction, latched: u8, amount: u64, q: u64) -> u64
     ensures { result ≡ moved direction latched amount q }
 {

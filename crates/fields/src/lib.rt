@@ -126,6 +126,7 @@ pub fn byte_in(line: &[u8], w: Word) -> Narrow
 }
 
 // A bit's number, 0 to 7.
+#[tactic(auto, unfolding(crate::specs::Fields::bit_in))]
 pub fn bit_in(line: &[u8], w: Word) -> Narrow
     requires { (w.from ≤ w.to) × (w.to ≤ length line.now) }
     ensures { result ≡ bit_in line.now w }

@@ -18,3 +18,6 @@ shown-given refusal answer number old s e = (s.number_is, answer-given number an
 pub shown-kept : (refusal answer number old : ℕ) {value : ℕ} → Shown refusal answer number value → number ≢ 0
     → (number ≡ refusal) × (old ≡ answered number answer old)
 shown-kept refusal answer number old s n = (s.number_is, answer-kept number answer old n)
+
+-- both, for a look that tells its number and its value
+pub ruleset shown = (shown-given, shown-kept)

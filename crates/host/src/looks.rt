@@ -54,6 +54,7 @@ pub extern "C" fn flash_normal(record: &[u8], seconds: u64, fraction: u64, norma
 }
 
 // A byte of the image at a time.
+#[tactic(auto, using(crate::proofs::Answered::shown))]
 #[unsafe(no_mangle)]
 pub extern "C" fn flash_peek(
     record: &[u8],

@@ -150,6 +150,7 @@ fn part_in(line: &[u8], from: usize, to: usize) -> Part
     judged(digits::decimal(line, from, to))
 }
 
+#[tactic(auto, using(crate::proofs::Words::too_many, crate::proofs::Words::few))]
 fn with_decimals(s: Part, line: &[u8], from: usize, to: usize) -> Length
     requires { (from ≤ to) × (to ≤ length line.now) }
     ensures { result ≡ with_decimals s (slice from to line.now) }

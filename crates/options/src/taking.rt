@@ -66,6 +66,7 @@ fn plain(args: &[u8], said: [Said; 13], word: Word) -> Given
     taken(said, HISTORY, word)
 }
 
+#[tactic(auto, unfolding(crate::specs::Arguments::option))]
 fn option(said: [Said; 13], p: usize, word: Word) -> Given
     requires { p < places }
     ensures { result ≡ option said p word }

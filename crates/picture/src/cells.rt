@@ -30,6 +30,7 @@ pub fn cell_after(
 }
 
 // Whether a cell of a page holds a charge after an exposure.
+#[tactic(auto, using(crate::proofs::Held::turns))]
 pub fn holds_charge(
     indices: &[u16],
     array: &[u8],

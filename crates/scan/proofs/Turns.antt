@@ -2,6 +2,7 @@
 -- answers; at the first refused field it is that field's number. So for limited bytes and the pages.
 -- Assumes nothing.
 use Rattle.std.proofs.Common.{◌≡◌, ℕ, zero, suc, ◌+◌, ◌-◌, ◌*◌, ◌/◌, ◌%◌, ◌<◌, ◌≤◌, Bool, true, false, cond, ◌&&◌, eqb, ltb, leb, List, ◌∷◌, length, drop, sym, refl, ◌∙◌, add-one, arith, drop_of_length-le, drop-cons, ltb-false, ltb-true, le-ltb, le-leb, leb-false}
+use borrow.Author.Tests.{lt-leb}
 use Rattle.time.proofs.Bools.{both}
 use Rattle.cell.specs.Cell.{at, page_bytes, page_cells, pages, array_bytes}
 use Rattle.flash.specs.Chip.{no_pages}
@@ -143,3 +144,11 @@ pub counted : (xs index : List ℕ) (count : ℕ) → pages_place ≤ length xs 
     → scan_number xs ≡ first (pages_number count 0 index xs pages_place) (state_number xs (page_at count))
 unfolding scan_number count_number
 counted xs index count h e l i = rw (le-ltb _ _ h, ← e, le-leb _ _ l, i)
+
+-- ---- more pages than there are
+
+pub too-many : (xs : List ℕ) (k : ℕ) → pages_place ≤ length xs → k ≡ count_in xs → pages < k → 10 ≡ scan_number xs
+unfolding scan_number count_number
+too-many xs k there e h = rw (le-ltb _ _ there, ← e, lt-leb _ _ h)
+
+pub ruleset many = (too-many)

@@ -182,6 +182,7 @@ pub fn count_in(bytes: &[u8]) -> usize
 }
 
 // The whole of it: 9 or 10 by the first field that is refused, else 0 and the page index.
+#[tactic(auto, using(crate::proofs::Turns::many))]
 pub fn scan(bytes: &[u8], indices: &mut [u16]) -> u32
     requires { indices.old ≡ no_pages pages }
     ensures { (result ≡ scan_number bytes.now) × (result ≡ 0 → indices.new ≡ pages_index (count_in bytes.now) 0 (no_pages pages) bytes.now pages_place) }

@@ -181,6 +181,7 @@ pub fn see_blank(record: &[u8], array: &[u8], charges: &[u64], address: u16, tim
 }
 
 // The image at a time, written to the output. The answer is the refusal's number.
+#[tactic(auto, using(crate::proofs::Short::short))]
 pub fn see_image(record: &[u8], array: &[u8], charges: &[u64], time: Time, out: &mut [u8]) -> u32
     ensures { (result ≡ image_refusal time (length out.old) (record { bytes = «record».now; array = array.now; charges = charges.now })) × (out.new ≡ image_left result time (record { bytes = «record».now; array = array.now; charges = charges.now }) out.old) }
 {

@@ -1,18 +1,7 @@
 -- `fields::bit_in` meets its contract: each arm of the match knows the number of the digits. Assumes nothing.
 use mathlib.Core.Path.{sym, ◌∙◌}
-use borrow.Author.Tests.{lt-ltb, le-ltb}
 use Rattle.fields.specs.Fields.{bit_in}
 use Rattle.fields.proofs.bit_in.Goals as goal
-
-pub returns-then-n-lt8 : goal.returns-then-n-lt8
-unfolding bit_in
-returns-then-n-lt8 c =
-    rw (sym c.hexadecimal.ensures ∙ c.in-Is.is, lt-ltb _ _ c.if-n-lt8.true)
-
-pub returns-else-n-lt8 : goal.returns-else-n-lt8
-unfolding bit_in
-returns-else-n-lt8 c =
-    rw (c.narrow_wrong.ensures, sym c.hexadecimal.ensures ∙ c.in-Is.is, le-ltb _ _ c.if-n-lt8.false)
 
 pub returns-in-TooLarge : goal.returns-in-TooLarge
 unfolding bit_in

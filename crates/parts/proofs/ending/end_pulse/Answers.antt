@@ -21,15 +21,15 @@ end_word-requires c =
 
 pub offset_bounds-events-count : goal.offset_bounds-events-count
 offset_bounds-events-count c =
-    let g = rw c.in-Open.is at c.requires.1 in let h = g (omega (arith, c.if-p-eq0.false)) in omega arith
+    let g = rw c.in-Open.is at c.requires.1 in let h = g (omega arith) in omega arith
 
 pub bounds-events-count : goal.bounds-events-count
 bounds-events-count c =
-    let g = rw c.in-Open.is at c.requires.1 in g (omega (arith, c.if-p-eq0.false))
+    let g = rw c.in-Open.is at c.requires.1 in g (omega arith)
 
 pub overflow_add-result : goal.overflow_add-result
 overflow_add-result c =
-    let g = rw c.in-Open.is at c.requires.1 in let h = g (omega (arith, c.if-p-eq0.false)) in omega arith
+    let g = rw c.in-Open.is at c.requires.1 in let h = g (omega arith) in omega arith
 
 pub returns-in-Closed : goal.returns-in-Closed
 unfolding ended end_of
