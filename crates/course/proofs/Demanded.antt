@@ -6,7 +6,6 @@ use mathlib.Core.List.{List, [], ◌∷◌, ◌++◌, map, append_assoc, append-
 use mathlib.Core.Path.{◌≡◌, refl, sym, ap, ◌∙◌}
 use lib.Dec.{eqb}
 use lib.ListN.{length}
-use Rattle.cell.specs.Cell.{at}
 use Rattle.lent.specs.Memory.{Memory}
 use Rattle.lent.specs.Asked.{outcome}
 use Rattle.ledger.specs.Lists.{Asked, Typed, new_memory, memory_after}

@@ -17,7 +17,7 @@ use Rattle.registers.specs.declared.Registers.{Registers}
 use Rattle.flash.specs.declared.Flash.{Flash}
 use Rattle.cell.specs.Cell.{at, pages}
 use Rattle.control.specs.Supplies.{supply_number, mode_number}
-use Rattle.layout.specs.Layout.{row, part, layout, record_length, flag_byte, flag_of, supply_of, mode_of, option_byte, pending_address, pending_instant, pending_of, time_of, head_of, addresses_of, halves_of, rows_of, registers_of, state_of, encoded, rows_in, decoded}
+use Rattle.layout.specs.Layout.{row, layout, record_length, flag_byte, flag_of, supply_of, mode_of, option_byte, pending_address, pending_instant, pending_of, time_of, head_of, addresses_of, halves_of, rows_of, registers_of, state_of, encoded, rows_in, decoded}
 use Rattle.layout.specs.Whole.{RowFits, TimeFits, PendingFits, RegistersFit, Fits}
 use Rattle.layout.proofs.Packed.{RowsFit, length-row, unpacked-packed, unpacked-fits, length-packed, packed-small}
 

@@ -6,7 +6,7 @@ use Rattle.time.specs.declared.Time.{Time}
 use Rattle.cell.specs.Cell.{array_bytes}
 use Rattle.registers.specs.Access.{register}
 use Rattle.registers.specs.Pulses.{normal}
-use Rattle.flash.specs.Chip.{registers, fresh_flash}
+use Rattle.flash.specs.Chip.{fresh_flash}
 use Rattle.flash.specs.Looking.{charge_at, peek_at, blank_at, image_at}
 use Rattle.layout.specs.Layout.{decoded, encoded, flag_byte, refused3}
 use Rattle.lent.specs.Memory.{Memory, chip_in, Check, check, first_given, record_misfits, sizes_misfit, past_end, bit_over, last_second, too_early}

@@ -14,7 +14,7 @@ use Rattle.lent.specs.declared.Request.TheVariants.{WriteRegister}
 use Rattle.light.specs.declared.Settings.{Settings}
 use Rattle.listing.specs.Calls.{first_in, second_in, request_by, request_in}
 use Rattle.listing.specs.Replaying.{stops}
-use Rattle.listing.specs.Held.{chip, Ready, leaves, Called, Onward}
+use Rattle.listing.specs.Held.{chip, Ready, Called, Onward}
 use Rattle.light.specs.Writes.{settings_of, Changed, lit, may_pulse, is_light, since_after}
 use Rattle.listing.proofs.Holding.{call-done}
 use Rattle.light.proofs.Lights.{closed-pulse, Says, light-says, light-performed, light-accepted}

@@ -26,7 +26,7 @@ use Rattle.lent.proofs.Fitted.{Sizes, sizes-fit, fitted}
 use Rattle.lent.proofs.Tells.{passes}
 use Rattle.ledger.specs.Lists.{Numbers}
 use Rattle.ledger.proofs.Kept.{fits-step, sound-step, numbers-arguments}
-use Rattle.listing.specs.Held.{chip, Ready, leaves, Called}
+use Rattle.listing.specs.Held.{chip, Ready, Called}
 
 -- ---- from memory
 

@@ -2,13 +2,11 @@
 use mathlib.Core.List.{List}
 use mathlib.Core.Path.{◌≡◌, ap, ◌∙◌, sym}
 use Prim.Native.Nat.{ℕ}
-use Rattle.lent.specs.Memory.{Memory}
 use Rattle.history.specs.History.{Asking}
 use Rattle.course.specs.declared.Complaint.{Complaint}
 use Rattle.course.specs.Desk.{Desk, after_saying}
-use Rattle.course.specs.Demand.{Done, Booking}
+use Rattle.course.specs.Demand.{Booking}
 use Rattle.course.proofs.Demanded.{text-demand}
-use Rattle.session.specs.Going.{ReadWhole}
 use Rattle.session.specs.Claim.{FileDemand3}
 
 -- the same calls are done at a desk that has said less

@@ -1,7 +1,7 @@
 -- A run over a file goes on as the definition of a run reads its bytes. Assumes nothing.
 use Prim.Native.Nat.{ℕ, ◌-◌, ◌≤◌, ◌<◌}
 use mathlib.Core.Bool.{Bool, true, false, cond, true≢false}
-use mathlib.Core.List.{List, [], ◌∷◌, ◌++◌, append_assoc}
+use mathlib.Core.List.{List, [], ◌++◌, append_assoc}
 use mathlib.Core.Path.{◌≡◌, refl, sym, ap, ◌∙◌}
 use native.Mathlib.Omega.{arith}
 use lib.Dec.{eqb}
@@ -13,10 +13,10 @@ use Rattle.course.specs.declared.Course.{Course}
 use Rattle.course.specs.declared.Manner.{Manner}
 use Rattle.course.specs.declared.Place.{Place}
 use Rattle.course.specs.Desk.{Desk, desk, called_all, numbered_from, complaints_of}
-use Rattle.course.specs.Reader.{Reader, read_after, line_ended, all_read, last_read, text_read, desk_at}
+use Rattle.course.specs.Reader.{Reader, read_after, line_ended, all_read, last_read, desk_at}
 use Rattle.course.proofs.Claimed.{runs}
 use Rattle.feeding.specs.Feeding.{between}
-use Rattle.steps.specs.Stepping.{Sound, reader_of, Steps, Closes}
+use Rattle.steps.specs.Stepping.{Steps, Closes}
 use Rattle.session.specs.declared.Run.{Run}
 use Rattle.session.specs.Going.{piece_bytes, Standing, read_on, Goes, reader_in, ReadWhole, beginning_with, with_piece, with_failure, Moves, CanStep}
 

@@ -1,6 +1,6 @@
 -- A run of the program over a file: whatever bytes the system gave, in whatever pieces, the desk comes to what the definition of a run says
 -- of them. Assumes nothing.
-use Rattle.std.specs.Prelude.{ℕ, ◌≤◌, ◌<◌, ◌≡◌, Bool, true, false, List, []}
+use Rattle.std.specs.Prelude.{ℕ, ◌≤◌, ◌<◌, ◌≡◌, Bool, true, false, List}
 use Rattle.lent.specs.Memory.{Memory}
 use Rattle.moments.specs.declared.Before.TheVariants.{Nothing}
 use Rattle.grammar.specs.declared.Line.TheVariants as line

@@ -1,7 +1,7 @@
 -- Which charge pages a snapshot can hold, given those before them, the last of them first. Assumes nothing.
 use mathlib.Core.Path.{◌≡◌}
 use mathlib.Core.Bool.{true, false}
-use mathlib.Core.List.{List, []}
+use mathlib.Core.List.{List}
 use Prim.Native.Nat.{ℕ, ◌≤◌}
 use lib.ListN.{length}
 use Rattle.cell.specs.Cell.{at, FULL, page_bytes, page_cells}

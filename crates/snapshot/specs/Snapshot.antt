@@ -12,7 +12,7 @@ use Rattle.control.specs.Supplies.{supply_number, mode_number}
 use Rattle.cell.specs.Cell.{FULL, page_bytes, page_cells, pages, array_bytes}
 use Rattle.settle.specs.Pages.{opened, holds}
 use Rattle.flash.specs.declared.Flash.{Flash}
-use Rattle.flash.specs.Chip.{Chip, registers, no_pages}
+use Rattle.flash.specs.Chip.{Chip, no_pages}
 use Rattle.layout.specs.Layout.{option_byte, supply_of, mode_of, placed}
 use Rattle.borsh.specs.Borsh.{Borsh, int, bool, enum, only, mapped, ◌then◌, Option, none, some, option, array, vec}
 

@@ -3,9 +3,7 @@
 use lib.ListN.{length}
 use Rattle.lent.proofs.Tells.{passes, told-2, told-3, told-later, told-done}
 use Rattle.lent.proofs.Fitted.{sizes-fit, fitted}
-use borrow.Author.Tests.{not-true, not-false}
 use mathlib.Core.Path.{sym, ◌∙◌}
-use borrow.Author.Rules.{rules}
 use Rattle.ask.proofs.ask.Goals as goal
 
 pub returns-then-sizes_misfit : goal.returns-then-sizes_misfit

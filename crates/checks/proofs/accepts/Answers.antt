@@ -1,7 +1,6 @@
 -- `checks::accepts` meets its contract: it is the definition's two parts.
 -- Assumes nothing.
 use Rattle.layout.specs.Layout.{accepted}
-use borrow.Author.Rules.{rules}
 use Rattle.checks.proofs.accepts.Goals as goal
 
 pub returns : goal.returns

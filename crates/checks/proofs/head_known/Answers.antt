@@ -2,7 +2,6 @@
 -- Assumes nothing.
 use mathlib.Core.Path.{refl}
 use Rattle.layout.specs.Layout.{head_known}
-use borrow.Author.Rules.{rules}
 use Rattle.checks.proofs.head_known.Goals as goal
 
 pub returns : goal.returns

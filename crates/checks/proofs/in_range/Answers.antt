@@ -2,7 +2,6 @@
 -- Assumes nothing.
 use Rattle.layout.proofs.Widths.{word-one}
 use Rattle.layout.specs.Layout.{rows_in, in_range, row}
-use borrow.Author.Rules.{rules}
 use Rattle.checks.proofs.in_range.Goals as goal
 
 pub returns : goal.returns

@@ -7,7 +7,6 @@ use mathlib.Core.Bool.{Bool, ◌&&◌}
 use mathlib.Core.List.{List}
 use mathlib.Core.Path.{◌≡◌, refl}
 use Rattle.layout.specs.Layout.{row, time_of, head_known, nothing_clear, rows_in, legible}
-use borrow.Author.Rules.{rules}
 use Rattle.checks.proofs.legible.Goals as goal
 
 -- the last instant of eight, by its halves

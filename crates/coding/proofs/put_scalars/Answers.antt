@@ -4,7 +4,6 @@ use mathlib.Core.List.{[], ◌++◌}
 use mathlib.Core.Path.{refl}
 use Rattle.layout.proofs.Runs.{row-after}
 use Rattle.layout.specs.Layout.{row_bytes, head_of, addresses_of, halves_of}
-use borrow.Author.Rules.{rules}
 use Rattle.coding.proofs.put_scalars.Goals as goal
 
 pub returns : goal.returns

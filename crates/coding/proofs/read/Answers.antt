@@ -6,7 +6,6 @@ use Prim.Native.Nat.{ℕ}
 use mathlib.Core.List.{List}
 use mathlib.Core.Path.{◌≡◌}
 use Rattle.layout.specs.Layout.{row, time_of, registers_of, rows_in, decoded, state_of}
-use borrow.Author.Rules.{rules}
 use Rattle.coding.proofs.read.Goals as goal
 
 made : (xs h a v l s n : List ℕ) (r : Registers) → r ≡ registers_of h a v l → h ≡ row 10 1 0 xs → a ≡ row 2 2 10 xs → v ≡ row 16 8 14 xs

@@ -1,5 +1,4 @@
 -- `course::after_left_out` meets its contract. Assumes nothing.
-use borrow.Author.Rules.{rules}
 use Rattle.course.proofs.after_left_out.Goals as goal
 
 pub returns : goal.returns

@@ -1,5 +1,4 @@
 -- `course::after_refusal` meets its contract. Assumes nothing.
-use borrow.Author.Rules.{rules}
 use Rattle.course.proofs.after_refusal.Goals as goal
 
 pub returns : goal.returns

@@ -1,5 +1,4 @@
 -- `course::with_calls` meets its contract. Assumes nothing.
-use borrow.Author.Rules.{rules}
 use Rattle.course.proofs.with_calls.Goals as goal
 
 pub returns : goal.returns

@@ -3,7 +3,6 @@ use Prim.Native.Nat.{ℕ}
 use mathlib.Core.List.{List, []}
 use mathlib.Core.Path.{◌≡◌, sym, ◌∙◌}
 use native.Mathlib.Nat.{add-zero}
-use borrow.Author.Rules.{rules}
 use Rattle.moments.specs.declared.Before.{Before}
 use Rattle.grammar.specs.declared.Line.{Line}
 use Rattle.grammar.specs.Grammar.{line_of}

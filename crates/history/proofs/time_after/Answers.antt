@@ -2,7 +2,6 @@
 use mathlib.Core.Path.{sym, ◌∙◌}
 use borrow.Author.Tests.{eq-eqb, ne_eqb}
 use Rattle.history.specs.History.{time_after}
-use borrow.Author.Rules.{rules}
 use Rattle.history.proofs.time_after.Goals as goal
 
 pub returns-then-from-to : goal.returns-then-from-to

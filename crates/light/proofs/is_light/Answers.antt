@@ -1,6 +1,5 @@
 -- `light::is_light` meets its contract: by what its calls ensure. Assumes nothing.
 use Rattle.light.specs.Writes.{is_light}
-use borrow.Author.Rules.{rules}
 use Rattle.light.proofs.is_light.Goals as goal
 
 pub returns : goal.returns

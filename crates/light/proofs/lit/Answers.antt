@@ -1,5 +1,4 @@
 -- `light::lit` meets its contract: by what its calls ensure. Assumes nothing.
-use borrow.Author.Rules.{rules}
 use Rattle.light.proofs.lit.Goals as goal
 
 pub returns : goal.returns

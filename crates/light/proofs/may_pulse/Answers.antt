@@ -1,5 +1,4 @@
 -- `light::may_pulse` meets its contract: by what its calls ensure. Assumes nothing.
-use borrow.Author.Rules.{rules}
 use Rattle.light.proofs.may_pulse.Goals as goal
 
 pub returns : goal.returns

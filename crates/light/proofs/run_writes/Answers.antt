@@ -3,13 +3,10 @@
 use Rattle.listing.proofs.Steps.{onward-none, onward-more}
 use Rattle.light.proofs.Onward.{lit-start, onward-light}
 use Rattle.light.proofs.Lights.{light-says}
-use borrow.Author.Tests.{leb-false, not-false}
+use borrow.Author.Tests.{leb-false}
 use mathlib.Core.Path.{sym, ◌∙◌}
 use native.Mathlib.Omega.{arith}
-use borrow.Author.Rules.{rules}
 use Prim.Native.Nat.{◌-◌, ◌^◌}
-use Rattle.listing.specs.Held.{Onward}
-use Rattle.light.specs.Writes.{lit}
 use Rattle.light.proofs.run_writes.Goals as goal
 
 pub loop-i-init : goal.loop-i-init

@@ -1,13 +1,6 @@
 -- `light::run_writes` meets its contract. The loop's invariant: a replay goes on from here, with the settings put back into the
 -- state, as it does from the first call. Assumes nothing.
-use Rattle.listing.proofs.Steps.{onward-none, onward-more}
-use Rattle.light.proofs.Onward.{lit-start, onward-light}
-use Rattle.light.proofs.Lights.{light-says}
-use borrow.Author.Tests.{leb-false, not-false}
-use mathlib.Core.Path.{sym, ◌∙◌}
-use native.Mathlib.Omega.{arith}
-use borrow.Author.Rules.{rules}
-use Prim.Native.Nat.{◌-◌, ◌^◌}
+use Prim.Native.Nat.{◌-◌}
 use Rattle.listing.specs.Held.{Onward}
 use Rattle.light.specs.Writes.{lit}
 use Rattle.light.proofs.run_writes.Given as goal

@@ -3,7 +3,6 @@ use mathlib.Core.Bool.{not, ◌&&◌}
 use lib.Dec.{eqb}
 use Rattle.control.specs.Bits.{FENR}
 use Rattle.light.proofs.Lights.{picked-whole}
-use borrow.Author.Rules.{rules}
 use Rattle.light.proofs.since_after.Goals as goal
 
 pub returns : goal.returns

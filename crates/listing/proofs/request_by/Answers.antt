@@ -1,7 +1,6 @@
 -- `listing::request_by` meets its contract: each arm of the match is one test of `request_by`. Assumes nothing.
 use Rattle.listing.specs.Calls.{request_by}
 use borrow.Author.Tests.{ne_eqb}
-use borrow.Author.Rules.{rules}
 use Rattle.listing.proofs.request_by.Goals as goal
 
 pub returns-in-0 : goal.returns-in-0

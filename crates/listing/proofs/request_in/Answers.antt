@@ -1,6 +1,5 @@
 -- `listing::request_in` meets its contract: its three parts are those of the definition. Assumes nothing.
 use Rattle.listing.specs.Calls.{request_in}
-use borrow.Author.Rules.{rules}
 use Rattle.listing.proofs.request_in.Goals as goal
 
 pub returns : goal.returns

@@ -1,5 +1,4 @@
 -- `listing::word_of` meets its contract: each arm knows the request, by which the definition computes. Assumes nothing.
-use borrow.Author.Rules.{rules}
 use Rattle.listing.proofs.word_of.Goals as goal
 
 pub returns-in-WriteRegister : goal.returns-in-WriteRegister

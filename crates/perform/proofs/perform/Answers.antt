@@ -1,7 +1,6 @@
 -- `perform::perform` meets its contract: by whether the call settles. Assumes nothing.
 use Rattle.flash.proofs.Performs.{performs-stored}
 use mathlib.Core.Path.{sym, ◌∙◌}
-use borrow.Author.Rules.{rules}
 use Rattle.perform.proofs.perform.Goals as goal
 
 pub perform_settling-requires : goal.perform_settling-requires

@@ -1,7 +1,6 @@
 -- `perform::perform_settling` meets its contract: what its parts leave makes up the step, `performs`. Assumes nothing.
 use mathlib.Core.Path.{◌∙◌}
 use Rattle.flash.proofs.Performs.{room-le, index-left, sound-left, array-left, charges-left, end-room, performs}
-use borrow.Author.Rules.{rules}
 use Rattle.perform.proofs.perform_settling.Goals as goal
 
 pub settle-changed-requires : goal.settle-changed-requires

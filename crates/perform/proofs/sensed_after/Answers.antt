@@ -1,6 +1,5 @@
 -- `perform::sensed_after` meets its contract: each arm knows the call, by which the definition computes. Assumes nothing.
 use Rattle.flash.specs.Chip.{blank_sensed}
-use borrow.Author.Rules.{rules}
 use Rattle.perform.proofs.sensed_after.Goals as goal
 
 pub returns-in-Reset : goal.returns-in-Reset

@@ -1,6 +1,5 @@
 -- `replay::replay` meets its contract: there is nothing to do, or the first call is refused by 2 or 3, or the run is on memory that
 -- is accepted, which its state is written as. Assumes nothing.
-use borrow.Author.Tests.{not-true, not-false}
 use mathlib.Core.Path.{sym, ◌∙◌}
 use lib.ListN.{length}
 use Rattle.lent.proofs.Tells.{told-2, told-3}
@@ -8,7 +7,6 @@ use Rattle.lent.proofs.Fitted.{sizes-fit}
 use Rattle.listing.proofs.Holding.{ready-start, memory_start}
 use Rattle.listing.proofs.Going.{refused-first}
 use Rattle.replay.proofs.Answers.{end-inside, nothing-done, run-done}
-use borrow.Author.Rules.{rules}
 use Rattle.replay.proofs.replay.Goals as goal
 
 pub returns-then-end-from : goal.returns-then-end-from

@@ -2,7 +2,6 @@ use mathlib.Core.Path.{refl, sym, ◌∙◌}
 use Rattle.flash.specs.Chip.{no_pages}
 use Rattle.lent.proofs.Fitted.{sizes-fit}
 use Rattle.restore.proofs.Taken.{sizes-refused, time-refused, scan-refused, read-by-place}
-use borrow.Author.Rules.{rules}
 use Rattle.restore.proofs.read_snapshot.Goals as goal
 
 pub returns-then-sizes_misfit : goal.returns-then-sizes_misfit

@@ -3,7 +3,6 @@ use lib.Seq.{length-take-le}
 use native.Mathlib.Omega.{arith}
 use Rattle.snapshot.proofs.Places.{scan-room}
 use Rattle.restore.proofs.Taken.{room, left_over, not_valid, taken}
-use borrow.Author.Rules.{rules}
 use Rattle.restore.proofs.take.Goals as goal
 
 pub count_in-count-requires : goal.count_in-count-requires

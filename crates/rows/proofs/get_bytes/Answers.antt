@@ -1,11 +1,11 @@
 -- `rows::get_bytes` meets its contract. The loop's invariant: the places passed have the row's numbers.
 -- Assumes nothing.
-use lib.ListN.{length, length-set}
-use Prim.Native.Nat.{◌+◌, ◌*◌, ◌≤◌, ◌-◌}
+use lib.ListN.{length-set}
+use Prim.Native.Nat.{◌+◌, ◌*◌}
 use mathlib.Core.Path.{◌≡◌, refl, sym, ◌∙◌}
 use Rattle.cell.specs.Cell.{at}
 use Rattle.layout.proofs.Widths.{word-one}
-use Rattle.layout.proofs.Runs.{filled, filled-turn, filled-all}
+use Rattle.layout.proofs.Runs.{filled-turn, filled-all}
 use native.Mathlib.Omega.{arith}
 use Rattle.rows.proofs.get_bytes.Goals as goal
 

@@ -1,12 +1,9 @@
 -- `rows::get_bytes` meets its contract. The loop's invariant: the places passed have the row's numbers.
 -- Assumes nothing.
-use lib.ListN.{length, length-set}
-use Prim.Native.Nat.{◌+◌, ◌*◌, ◌≤◌, ◌-◌}
-use mathlib.Core.Path.{◌≡◌, refl, sym, ◌∙◌}
-use Rattle.cell.proofs.Partly.{partly-turn}
-use Rattle.layout.proofs.Widths.{word-one}
-use Rattle.layout.proofs.Runs.{filled, filled-all}
-use native.Mathlib.Omega.{arith}
+use lib.ListN.{length}
+use Prim.Native.Nat.{◌≤◌, ◌-◌}
+use mathlib.Core.Path.{◌≡◌}
+use Rattle.layout.proofs.Runs.{filled}
 use Rattle.rows.proofs.get_bytes.Given as goal
 
 abbrev pub invariant-loop-i : goal.invariant-loop-i

@@ -1,9 +1,8 @@
 -- `rows::get_halves` meets its contract. The loop's invariant: the places passed have the row's numbers.
 -- Assumes nothing.
-use lib.ListN.{length, length-set}
-use Prim.Native.Nat.{◌≤◌, ◌-◌}
-use mathlib.Core.Path.{◌≡◌, refl, ◌∙◌}
-use Rattle.layout.proofs.Runs.{filled, filled-turn, filled-all}
+use lib.ListN.{length-set}
+use mathlib.Core.Path.{refl, ◌∙◌}
+use Rattle.layout.proofs.Runs.{filled-turn, filled-all}
 use native.Mathlib.Omega.{arith}
 use Rattle.rows.proofs.get_halves.Goals as goal
 

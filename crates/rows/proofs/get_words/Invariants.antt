@@ -1,11 +1,9 @@
 -- `rows::get_words` meets its contract. The loop's invariant: the places passed have the row's numbers.
 -- Assumes nothing.
-use lib.ListN.{length, length-set}
+use lib.ListN.{length}
 use Prim.Native.Nat.{◌≤◌, ◌-◌}
-use mathlib.Core.Path.{◌≡◌, refl, ◌∙◌}
-use Rattle.cell.proofs.Partly.{partly-turn}
-use Rattle.layout.proofs.Runs.{filled, filled-all}
-use native.Mathlib.Omega.{arith}
+use mathlib.Core.Path.{◌≡◌}
+use Rattle.layout.proofs.Runs.{filled}
 use Rattle.rows.proofs.get_words.Given as goal
 
 abbrev pub invariant-loop-i : goal.invariant-loop-i

@@ -2,11 +2,9 @@
 -- Assumes nothing.
 use Rattle.layout.specs.Layout.{row_bytes}
 use mathlib.Core.List.{◌++◌}
-use lib.ListN.{length, get_or, take, length-set}
-use Prim.Native.Nat.{◌+◌, ◌*◌, ◌≤◌, ◌-◌}
-use mathlib.Core.Path.{◌≡◌, refl}
-use Rattle.layout.proofs.Runs.{start, more, finish, put_one}
-use native.Mathlib.Omega.{arith}
+use lib.ListN.{length, take}
+use Prim.Native.Nat.{◌+◌, ◌≤◌, ◌-◌}
+use mathlib.Core.Path.{◌≡◌}
 use Rattle.rows.proofs.put_bytes.Given as goal
 
 abbrev pub invariant-loop-i : goal.invariant-loop-i

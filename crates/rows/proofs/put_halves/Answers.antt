@@ -1,10 +1,8 @@
 -- `rows::put_halves` meets its contract. The loop's invariant: the bytes of the numbers passed stand after what was there.
 -- Assumes nothing.
-use Rattle.layout.specs.Layout.{row_bytes}
-use mathlib.Core.List.{◌++◌}
-use lib.ListN.{length, take}
-use Prim.Native.Nat.{◌+◌, ◌*◌, ◌≤◌, ◌-◌}
-use mathlib.Core.Path.{◌≡◌, refl}
+use lib.ListN.{length}
+use Prim.Native.Nat.{◌+◌, ◌*◌}
+use mathlib.Core.Path.{refl}
 use Rattle.layout.proofs.Runs.{start, more, finish}
 use native.Mathlib.Omega.{arith}
 use Rattle.rows.proofs.put_halves.Goals as goal

@@ -4,9 +4,7 @@ use Rattle.layout.specs.Layout.{row_bytes}
 use mathlib.Core.List.{◌++◌}
 use lib.ListN.{length, take}
 use Prim.Native.Nat.{◌+◌, ◌*◌, ◌≤◌, ◌-◌}
-use mathlib.Core.Path.{◌≡◌, refl}
-use Rattle.layout.proofs.Runs.{start, more, finish}
-use native.Mathlib.Omega.{arith}
+use mathlib.Core.Path.{◌≡◌}
 use Rattle.rows.proofs.put_words.Given as goal
 
 abbrev pub invariant-loop-i : goal.invariant-loop-i

@@ -2,7 +2,6 @@
 use Rattle.listing.proofs.Holding.{ready-fit, call-refused, call-done}
 use Rattle.lent.proofs.Tells.{passes}
 use mathlib.Core.Path.{sym, ◌∙◌}
-use borrow.Author.Rules.{rules}
 use Rattle.running.proofs.call_held.Goals as goal
 
 pub returns-then-number-ne0 : goal.returns-then-number-ne0

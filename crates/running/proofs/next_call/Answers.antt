@@ -1,7 +1,6 @@
 -- `running::next_call` meets its contract: the number is read as a request in range, and the words of a list are halves of a time.
 -- Assumes nothing.
 use Rattle.listing.proofs.Numbers.{numbers-in}
-use borrow.Author.Rules.{rules}
 use Rattle.running.proofs.next_call.Goals as goal
 
 pub call_held-said-requires : goal.call_held-said-requires

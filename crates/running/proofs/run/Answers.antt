@@ -2,10 +2,8 @@
 -- words. Assumes nothing.
 use native.Mathlib.Omega.{arith}
 use mathlib.Core.Path.{refl, sym, ap, ◌∙◌}
-use Prim.Native.Nat.{◌-◌}
 use lib.ListN.{length}
-use Rattle.listing.specs.Held.{chip}
-use Rattle.listing.proofs.Steps.{Gone, gone-light, gone-end, gone-stop, gone-on}
+use Rattle.listing.proofs.Steps.{gone-light, gone-end, gone-stop, gone-on}
 use Rattle.running.proofs.run.Goals as goal
 
 pub loop-i-init : goal.loop-i-init

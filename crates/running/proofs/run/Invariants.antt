@@ -1,11 +1,8 @@
 -- `running::run` meets its contract. The loop's invariant: the replay has come here from the first call, and has given no event
 -- words. Assumes nothing.
-use native.Mathlib.Omega.{arith}
-use mathlib.Core.Path.{refl, sym, ap, ◌∙◌}
 use Prim.Native.Nat.{◌-◌}
-use lib.ListN.{length}
 use Rattle.listing.specs.Held.{chip}
-use Rattle.listing.proofs.Steps.{Gone, gone-light, gone-end, gone-stop, gone-on}
+use Rattle.listing.proofs.Steps.{Gone}
 use Rattle.running.proofs.run.Given as goal
 
 abbrev pub invariant-loop-i : goal.invariant-loop-i

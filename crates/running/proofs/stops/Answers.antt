@@ -1,5 +1,4 @@
 -- `running::stops` meets its contract: by what `reads` ensures. Assumes nothing.
-use borrow.Author.Rules.{rules}
 use Rattle.running.proofs.stops.Goals as goal
 
 pub returns : goal.returns

@@ -8,7 +8,6 @@ use Rattle.save.proofs.Filled.{filled}
 use Rattle.snapshot.specs.Places.{page_at}
 use Rattle.settle.proofs.Slots.{opened-le}
 use native.Mathlib.Omega.{arith}
-use borrow.Author.Rules.{rules}
 use Rattle.save.proofs.fill.Goals as goal
 
 pub overflow_cast-count : goal.overflow_cast-count

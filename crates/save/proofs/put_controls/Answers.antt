@@ -2,7 +2,6 @@
 -- Assumes nothing.
 use Rattle.save.proofs.Runs.{controls-row}
 use Rattle.snapshot.specs.Snapshot.{state_fields}
-use borrow.Author.Rules.{rules}
 use Rattle.save.proofs.put_controls.Goals as goal
 
 pub returns : goal.returns

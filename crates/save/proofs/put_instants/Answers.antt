@@ -4,7 +4,6 @@
 use Rattle.save.proofs.Runs.{instants-row}
 use Rattle.snapshot.specs.Snapshot.{state_fields}
 use native.Mathlib.Omega.{arith}
-use borrow.Author.Rules.{rules}
 use Rattle.save.proofs.put_instants.Goals as goal
 
 pub returns : goal.returns

@@ -1,13 +1,11 @@
 -- `save::put_pages` meets its contract. The loop's invariant: the pages of the slots passed stand after what was there.
 -- Assumes nothing.
-use Prim.Native.Nat.{◌+◌, ◌-◌, ◌≤◌}
-use mathlib.Core.Path.{◌≡◌, refl}
+use Prim.Native.Nat.{◌-◌, ◌≤◌}
+use mathlib.Core.Path.{◌≡◌}
 use mathlib.Core.List.{◌++◌}
-use lib.ListN.{length, take, length-take, length-drop}
-use Rattle.settle.proofs.Slots.{opened-le}
+use lib.ListN.{length, take}
 use Rattle.snapshot.specs.Places.{pages_place, page_at}
-use Rattle.save.proofs.Filled.{page_run, page_inside, pages-none, pages-more, pages-all}
-use native.Mathlib.Omega.{arith}
+use Rattle.save.proofs.Filled.{page_run}
 use Rattle.save.proofs.put_pages.Given as goal
 
 abbrev pub invariant-loop-slot : goal.invariant-loop-slot

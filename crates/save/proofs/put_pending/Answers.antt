@@ -9,7 +9,6 @@ use Rattle.layout.specs.Layout.{bytes, row_bytes}
 use Rattle.layout.proofs.Runs.{put_one}
 use Rattle.save.proofs.Runs.{after, nothing-row, sense-row}
 use native.Mathlib.Omega.{arith}
-use borrow.Author.Rules.{rules}
 use Rattle.save.proofs.put_pending.Goals as goal
 
 pub put16-requires : goal.put16-requires

@@ -2,7 +2,6 @@
 -- Assumes nothing.
 use Rattle.save.proofs.Runs.{supplies-row}
 use Rattle.snapshot.specs.Snapshot.{state_fields}
-use borrow.Author.Rules.{rules}
 use Rattle.save.proofs.put_supplies.Goals as goal
 
 pub returns : goal.returns

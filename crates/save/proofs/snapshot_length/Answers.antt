@@ -1,7 +1,6 @@
 -- `save::snapshot_length` meets its contract: each arm knows whether a sense is pending, by which the definition computes.
 -- Assumes nothing.
 use native.Mathlib.Omega.{arith}
-use borrow.Author.Rules.{rules}
 use Rattle.save.proofs.snapshot_length.Goals as goal
 
 pub returns-in-Nothing : goal.returns-in-Nothing

@@ -10,7 +10,6 @@ use Rattle.lent.specs.Memory.{Memory, misfits}
 use Rattle.lent.proofs.Fitted.{sizes-fit, fitted}
 use Rattle.save.proofs.Told.{length-written, told-2, told-3, told-8, told-done}
 use native.Mathlib.Omega.{arith}
-use borrow.Author.Rules.{rules}
 use Rattle.save.proofs.write_snapshot.Goals as goal
 
 pub returns-then-sizes_misfit : goal.returns-then-sizes_misfit

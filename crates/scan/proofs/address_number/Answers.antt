@@ -1,5 +1,5 @@
 -- `scan::address_number` meets its contract: the tests passed so far rewrite the definition's to the number. Assumes nothing.
-use Rattle.std.proofs.Common.{sym, ◌∙◌, arith, rules, le-ltb, lt-ltb, eq-eqb, ne_eqb}
+use Rattle.std.proofs.Common.{sym, ◌∙◌, arith, le-ltb, lt-ltb, eq-eqb, ne_eqb}
 use Rattle.snapshot.specs.Places.{address_number}
 use Rattle.scan.proofs.Turns.{placed-page}
 use Rattle.scan.proofs.address_number.Goals as goal

@@ -1,9 +1,7 @@
 -- `scan::bytes_number` meets its contract. The loop's invariant: what all bytes answer is what those from i on answer.
 -- Assumes nothing.
-use Rattle.std.proofs.Common.{◌≡◌, suc, ◌+◌, ◌-◌, ◌≤◌, length, drop, sym, ◌∙◌, add-zero, add-one, arith, le-leb}
-use borrow.Author.Tests.{lt-leb}
+use Rattle.std.proofs.Common.{◌≡◌, ◌+◌, ◌-◌, ◌≤◌, length, drop}
 use Rattle.snapshot.specs.Places.{bytes_number}
-use Rattle.scan.proofs.Turns.{limit-next, no-limits}
 use Rattle.scan.proofs.bytes_number.Given as goal
 
 abbrev pub invariant-loop-i : goal.invariant-loop-i

@@ -1,5 +1,5 @@
 -- `scan::cells_number` meets its contract: a row that is cut has the number of those that are there, or else 9. Assumes nothing.
-use Rattle.std.proofs.Common.{true, false, sym, arith, rules}
+use Rattle.std.proofs.Common.{true, false, sym, arith}
 use Rattle.scan.proofs.Charges.{cells_cut}
 use Rattle.scan.proofs.cells_number.Goals as goal
 

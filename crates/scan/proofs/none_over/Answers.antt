@@ -1,8 +1,8 @@
 -- `scan::none_over` meets its contract. The loop's invariant: what all the charges answer is what those passed answer, by the highest bit of
 -- their numbers together, or else what the rest answers. Assumes nothing.
-use Rattle.std.proofs.Common.{◌-◌, add-zero, mul-zero, arith, rules}
+use Rattle.std.proofs.Common.{add-zero, mul-zero, arith}
 use native.Mathlib.Nat.{sub-zero}
-use Rattle.scan.proofs.Charges.{Looked, looked-through, looked-more}
+use Rattle.scan.proofs.Charges.{looked-through, looked-more}
 use Rattle.scan.proofs.none_over.Goals as goal
 
 pub loop-i-init : goal.loop-i-init

@@ -1,5 +1,5 @@
 -- `scan::over` meets its contract, by the law of the highest bit. Assumes nothing.
-use Rattle.std.proofs.Common.{arith, rules}
+use Rattle.std.proofs.Common.{arith}
 use Rattle.scan.proofs.Charges.{over-top}
 use Rattle.scan.proofs.over.Goals as goal
 

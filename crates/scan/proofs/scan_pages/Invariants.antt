@@ -1,9 +1,8 @@
 -- `scan::scan_pages` meets its contract. The loops' invariants: nothing was refused, and what all pages answer is what those
 -- from the slot on answer; what all charges of the page answer is what those from i on answer, i a whole number of quarters. Assumes nothing.
-use Rattle.std.proofs.Common.{◌-◌, sym, refl, ◌∙◌, arith}
-use native.Mathlib.Nat.{sub-zero}
-use Rattle.scan.proofs.Charges.{Cells, cells-through, quarter-good, quarter-bad}
-use Rattle.scan.proofs.Turns.{address-fits, Pages, pages-through, address-bad, cells-bad, page-good}
+use Rattle.std.proofs.Common.{◌-◌}
+use Rattle.scan.proofs.Charges.{Cells}
+use Rattle.scan.proofs.Turns.{Pages}
 use Rattle.scan.proofs.scan_pages.Given as goal
 
 abbrev pub invariant-loop-i : goal.invariant-loop-i

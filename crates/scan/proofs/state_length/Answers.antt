@@ -1,5 +1,5 @@
 -- `scan::state_length` meets its contract: the code's test is the definition's. Assumes nothing.
-use Rattle.std.proofs.Common.{rules, eq-eqb, ne_eqb}
+use Rattle.std.proofs.Common.{eq-eqb, ne_eqb}
 use Rattle.snapshot.specs.Places.{state_length}
 use Rattle.scan.proofs.state_length.Goals as goal
 

@@ -1,5 +1,5 @@
 -- `scan::state_number` meets its contract: the fields passed so far rewrite the definition to the next one. Assumes nothing.
-use Rattle.std.proofs.Common.{◌+◌, [], sym, ◌∙◌, arith, rules, le-ltb, lt-ltb}
+use Rattle.std.proofs.Common.{◌+◌, [], sym, ◌∙◌, arith, le-ltb, lt-ltb}
 use Rattle.snapshot.specs.Places.{state_number}
 use Rattle.scan.proofs.Turns.{first_stops, byte-there, state-small}
 use Rattle.scan.proofs.state_number.Goals as goal

@@ -1,11 +1,9 @@
 -- `see::look_refusal` meets its contract: the tests passed so far rewrite the definition's checks to the next number.
 -- Assumes nothing.
 use lib.ListN.{length}
-use borrow.Author.Tests.{not-true, not-false}
 use Rattle.lent.proofs.Fitted.{sizes-fit}
 use Rattle.lent.specs.Looked.{sized_refusal}
 use mathlib.Core.Path.{sym, ◌∙◌}
-use borrow.Author.Rules.{rules}
 use Rattle.see.proofs.look_refusal.Goals as goal
 
 pub returns-then-sizes_misfit : goal.returns-then-sizes_misfit

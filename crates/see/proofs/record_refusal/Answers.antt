@@ -1,9 +1,8 @@
 -- `see::record_refusal` meets its contract: the first test that holds gives its number, as in the definition. Assumes nothing.
-use borrow.Author.Tests.{ne_eqb, eq-eqb, not-true, not-false}
+use borrow.Author.Tests.{ne_eqb, eq-eqb}
 use Rattle.lent.specs.Looked.{register_refusal}
 use mathlib.Core.Path.{sym, ◌∙◌}
 use native.Mathlib.Omega.{arith}
-use borrow.Author.Rules.{rules}
 use Rattle.see.proofs.record_refusal.Goals as goal
 
 pub returns-then-record-ne-RECORD_LEN : goal.returns-then-record-ne-RECORD_LEN

@@ -5,7 +5,6 @@ use Rattle.lent.proofs.Looks.{shown, shown-refused, looks}
 use borrow.Author.Tests.{leb-false}
 use Rattle.lent.specs.Looked.{peek_refusal, peek_answer}
 use mathlib.Core.Path.{sym, ◌∙◌}
-use borrow.Author.Rules.{rules}
 use Rattle.see.proofs.see_byte.Goals as goal
 
 pub returns-then-number-ne0 : goal.returns-then-number-ne0

@@ -3,7 +3,6 @@
 use Rattle.lent.proofs.Looks.{cell-inside, shown, shown-refused, looks}
 use Rattle.lent.proofs.Fitted.{fitted}
 use Rattle.lent.specs.Looked.{charge_refusal, charge_answer}
-use borrow.Author.Rules.{rules}
 use Rattle.see.proofs.see_charge.Goals as goal
 
 pub returns-then-number-ne0 : goal.returns-then-number-ne0

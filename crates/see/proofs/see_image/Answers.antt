@@ -5,7 +5,6 @@ use Rattle.cell.specs.Cell.{array_bytes}
 use Rattle.lent.proofs.Fitted.{fitted}
 use Rattle.lent.proofs.Looks.{looks, image-first, image-done, image-stays}
 use native.Mathlib.Omega.{arith}
-use borrow.Author.Rules.{rules}
 use Rattle.see.proofs.see_image.Goals as goal
 
 pub returns-then-number-ne0 : goal.returns-then-number-ne0

@@ -4,7 +4,6 @@ use Rattle.lent.proofs.Looks.{shown, shown-refused, normal-first, normal-after}
 use Rattle.lent.specs.Looked.{normal_answer}
 use mathlib.Core.Path.{refl, sym, ◌∙◌}
 use native.Mathlib.Omega.{arith}
-use borrow.Author.Rules.{rules}
 use Rattle.see.proofs.see_normal.Goals as goal
 
 pub returns-then-number-ne0 : goal.returns-then-number-ne0

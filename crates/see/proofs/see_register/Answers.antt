@@ -2,7 +2,6 @@
 -- Assumes nothing.
 use Rattle.lent.proofs.Looks.{shown}
 use Rattle.lent.specs.Looked.{register_answer}
-use borrow.Author.Rules.{rules}
 use Rattle.see.proofs.see_register.Goals as goal
 
 pub read-flash-requires : goal.read-flash-requires

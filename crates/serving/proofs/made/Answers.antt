@@ -1,6 +1,5 @@
 -- `serving::made` meets its contract: each part of the desk by the function that makes it. Assumes nothing.
 use mathlib.Core.Path.{refl}
-use borrow.Author.Rules.{rules}
 use Rattle.serving.proofs.made.Goals as goal
 
 pub returns : goal.returns

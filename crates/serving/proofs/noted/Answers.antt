@@ -1,6 +1,5 @@
 -- `serving::noted` meets its contract, by whether the call was refused. Assumes nothing.
 use mathlib.Core.Path.{refl}
-use borrow.Author.Rules.{rules}
 use borrow.Author.Tests.{eq-eqb, ne_eqb}
 use Rattle.text.proofs.Joined.{puts_none}
 use Rattle.serving.proofs.noted.Goals as goal

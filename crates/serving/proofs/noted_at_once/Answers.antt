@@ -1,5 +1,4 @@
 -- `serving::noted_at_once` meets its contract: the last call is noted at the course after those that passed. Assumes nothing.
-use borrow.Author.Rules.{rules}
 use Rattle.serving.proofs.noted_at_once.Goals as goal
 
 pub returns : goal.returns

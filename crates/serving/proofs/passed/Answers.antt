@@ -1,5 +1,4 @@
 -- `serving::passed` meets its contract: no call, or some. Assumes nothing.
-use borrow.Author.Rules.{rules}
 use borrow.Author.Tests.{eq-eqb, ne_eqb}
 use Rattle.serving.specs.Noting.{passed}
 use Rattle.serving.proofs.passed.Goals as goal

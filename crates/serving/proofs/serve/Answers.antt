@@ -1,6 +1,5 @@
 -- `serving::serve` meets its contract, by what a replay shows of the desk. Assumes nothing.
 use native.Mathlib.Omega.{arith}
-use borrow.Author.Rules.{rules}
 use Rattle.serving.proofs.Answered.{done-some, serves}
 use Rattle.serving.proofs.serve.Goals as goal
 

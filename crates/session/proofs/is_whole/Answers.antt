@@ -1,7 +1,6 @@
 -- `session::is_whole` meets its contract. Assumes nothing.
 use mathlib.Core.Bool.{true≢false}
 use mathlib.Core.Path.{sym}
-use borrow.Author.Rules.{rules}
 use Rattle.session.proofs.is_whole.Goals as goal
 
 pub returns-then-course : goal.returns-then-course

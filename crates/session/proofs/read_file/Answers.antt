@@ -1,7 +1,6 @@
 -- `session::read_file` meets its contract. Assumes nothing.
 use mathlib.Core.List.{[]}
 use Rattle.session.proofs.Gone.{begins, read_whole}
-use borrow.Author.Rules.{rules}
 use Rattle.session.proofs.read_file.Goals as goal
 
 pub take_turns-run-requires : goal.take_turns-run-requires

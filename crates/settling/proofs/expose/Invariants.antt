@@ -1,18 +1,8 @@
 -- `settling::expose` meets its contract. The loop's invariant: index, array, charges and events are those after the pages passed.
 -- Assumes nothing.
-use mathlib.Core.Path.{◌≡◌, ap, sym, ◌∙◌}
-use mathlib.Core.Logic.{⊎_elim}
-use Prim.Native.Nat.{◌+◌, ◌-◌, ◌≤◌, ◌<◌}
-use native.Mathlib.Omega.{arith}
-use borrow.Author.Tests.{eqb-true, eqb-false}
-use lib.ListN.{length}
+use Prim.Native.Nat.{◌-◌, ◌≤◌}
 use Rattle.time.specs.Raw.{span}
-use Rattle.settle.specs.Pages.{Cells}
-use Rattle.settle.specs.Settling.{charged}
-use Rattle.settle.proofs.Slots.{SlotsOf, slots-from, slots-sound, opened-le}
-use Rattle.settle.proofs.Page.{slot_lt, page-slots}
-use Rattle.settle.proofs.Stored.{stored-length, stored-events, stored-le}
-use Rattle.settle.proofs.Turns.{cells, Turned, left-none, turned_none, turned-all, turned-slots, turned-moves, turned-stays, turned_more}
+use Rattle.settle.proofs.Turns.{cells, Turned}
 use Rattle.settling.proofs.expose.Given as goal
 
 abbrev pub invariant-loop-i : goal.invariant-loop-i

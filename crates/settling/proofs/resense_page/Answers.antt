@@ -12,7 +12,6 @@ use Rattle.cell.specs.Cell.{at, sensed_byte, sensed_page}
 use Rattle.cell.proofs.Maps.{get_or-mapi}
 use Rattle.cell.proofs.Sensed.{sensed_byte-same}
 use Rattle.settle.proofs.Place.{spanned-same}
-use borrow.Author.Rules.{rules}
 use Rattle.settling.proofs.resense_page.Goals as goal
 
 -- what stands at an address of the page is sensed from its own cells of the slot

@@ -6,7 +6,6 @@ use Rattle.time.specs.Raw.{raw, span, later}
 use Rattle.time.proofs.Laws.{span-since}
 use Rattle.settle.specs.Settling.{exposure, settled_by}
 use Rattle.settle.proofs.Turns.{cells, left-same}
-use borrow.Author.Rules.{rules}
 use Rattle.settling.proofs.settle.Goals as goal
 
 pub expose-requires : goal.expose-requires

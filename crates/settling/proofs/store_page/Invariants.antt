@@ -1,13 +1,10 @@
 -- `settling::store_page` meets its contract. The loop's invariant: the bytes passed are stored, with an event for each change.
 -- Assumes nothing.
-use mathlib.Core.Path.{◌≡◌, refl, ap, ◌∙◌}
-use mathlib.Core.Logic.{⊎_elim}
-use Prim.Native.Nat.{ℕ, suc, ◌+◌, ◌-◌, ◌≤◌, ◌<◌}
-use native.Mathlib.Nat.{add-zero}
-use native.Mathlib.Omega.{arith}
+use mathlib.Core.Path.{◌≡◌}
+use Prim.Native.Nat.{◌+◌, ◌-◌, ◌≤◌}
 use lib.ListN.{length}
 use Rattle.cell.specs.Cell.{at}
-use Rattle.settle.proofs.Stored.{Stored, stored-none, stored-length, stored-events, stored-le, stored_same, stored-changed}
+use Rattle.settle.proofs.Stored.{Stored}
 use Rattle.settling.proofs.store_page.Given as goal
 
 abbrev pub invariant-loop-i : goal.invariant-loop-i

@@ -1,6 +1,5 @@
 -- `snapshot::page_at` meets its contract: the definition is the code's sum. Assumes nothing.
 use mathlib.Core.Path.{refl}
-use borrow.Author.Rules.{rules}
 use Rattle.snapshot.specs.Places.{page_at}
 use Rattle.snapshot.proofs.page_at.Goals as goal
 

@@ -1,6 +1,5 @@
 -- `steps::step` meets its contract. Assumes nothing.
 use Rattle.steps.proofs.Desks.{ran_on, did_read}
-use borrow.Author.Rules.{rules}
 use Rattle.steps.proofs.step.Goals as goal
 
 pub returns-then-place : goal.returns-then-place

@@ -1,6 +1,5 @@
 -- `summary::report` meets its contract: the look is refused, or the text is that of what it shows.
 -- Assumes nothing.
-use borrow.Author.Rules.{rules}
 use Rattle.summary.proofs.Shown.{reports-refused, reports-shown}
 use Rattle.summary.proofs.report.Goals as goal
 

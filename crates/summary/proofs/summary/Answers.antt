@@ -1,6 +1,5 @@
 -- `summary::summary` meets its contract: four texts, one after the other.
 -- Assumes nothing.
-use borrow.Author.Rules.{rules}
 use Rattle.text.proofs.Joined.{puts-append}
 use Rattle.summary.specs.Summary.{summary_text}
 use Rattle.summary.proofs.summary.Goals as goal

@@ -1,5 +1,4 @@
 -- `taking::place_after` meets its contract. Assumes nothing.
-use borrow.Author.Rules.{rules}
 use Rattle.taking.proofs.place_after.Goals as goal
 
 pub returns : goal.returns

@@ -1,7 +1,6 @@
 -- `taking::take_line` meets its contract: the place after the line is as the definition has it, and so are the calls that wait.
 -- Assumes nothing.
 use native.Mathlib.Omega.{arith}
-use borrow.Author.Rules.{rules}
 use lib.ListN.{length-take}
 use Rattle.taking.proofs.Taken.{unread, parsed}
 use Rattle.taking.proofs.take_line.Goals as goal

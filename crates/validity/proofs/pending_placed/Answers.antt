@@ -1,6 +1,5 @@
 -- `validity::pending_placed` meets its contract, by the arms of its match.
 -- Assumes nothing.
-use borrow.Author.Rules.{rules}
 use Rattle.validity.proofs.pending_placed.Goals as goal
 
 pub returns-in-Sense : goal.returns-in-Sense

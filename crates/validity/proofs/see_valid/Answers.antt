@@ -5,7 +5,6 @@ use Rattle.snapshot.specs.Asked.{valid_refusal, valid_answer}
 use mathlib.Core.Path.{refl, sym, ◌∙◌}
 use borrow.Author.Tests.{ne_eqb, eq-eqb}
 use native.Mathlib.Omega.{arith}
-use borrow.Author.Rules.{rules}
 use Rattle.validity.proofs.see_valid.Goals as goal
 
 pub returns-then-record-ne-RECORD_LEN : goal.returns-then-record-ne-RECORD_LEN

@@ -1,7 +1,6 @@
 -- `validity::valid` meets its contract: each test is what its callee ensures.
 -- Assumes nothing.
 use Rattle.snapshot.specs.Asked.{valid}
-use borrow.Author.Rules.{rules}
 use Rattle.validity.proofs.valid.Goals as goal
 
 pub returns : goal.returns

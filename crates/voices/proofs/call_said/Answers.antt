@@ -1,6 +1,5 @@
 -- `voices::call_said` meets its contract: the events, and after them the answer, or nothing. Assumes nothing.
 use Rattle.text.proofs.Joined.{puts_none, puts-append}
-use borrow.Author.Rules.{rules}
 use Rattle.voices.proofs.call_said.Goals as goal
 
 pub returns-then-events_asked : goal.returns-then-events_asked

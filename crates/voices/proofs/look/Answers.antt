@@ -1,7 +1,6 @@
 -- `voices::look` meets its contract: the desk is left as it was but for what is said, or with one line more that is left out.
 -- Assumes nothing.
 use mathlib.Core.Path.{refl}
-use borrow.Author.Rules.{rules}
 use Rattle.voices.proofs.Sights.{left-seen, left-refused}
 use Rattle.voices.proofs.look.Goals as goal
 

@@ -1,12 +1,11 @@
 -- `voices::put_events` meets its contract. The invariant: the events of the words passed are put, and the slice is as long as it was.
 -- Assumes nothing.
-use Prim.Native.Nat.{◌≤◌, ◌<◌, ◌-◌}
-use mathlib.Core.Path.{◌≡◌, ◌∙◌}
+use Prim.Native.Nat.{◌≤◌, ◌<◌}
+use mathlib.Core.Path.{◌∙◌}
 use native.Mathlib.Numerals.{add-one}
 use borrow.Author.Rules.{rules}
-use lib.ListN.{length, take}
+use lib.ListN.{length}
 use lib.Seq.{take_all}
-use Rattle.text.specs.Puts.{Puts}
 use Rattle.text.proofs.Joined.{puts_none, puts-append}
 use Rattle.course.specs.Desk.{events_said}
 use Rattle.voices.proofs.Events.{events-snoc}

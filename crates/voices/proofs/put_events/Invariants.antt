@@ -1,15 +1,10 @@
 -- `voices::put_events` meets its contract. The invariant: the events of the words passed are put, and the slice is as long as it was.
 -- Assumes nothing.
-use Prim.Native.Nat.{◌≤◌, ◌<◌, ◌-◌}
-use mathlib.Core.Path.{◌≡◌, ◌∙◌}
-use native.Mathlib.Numerals.{add-one}
-use borrow.Author.Rules.{rules}
+use Prim.Native.Nat.{◌≤◌, ◌-◌}
+use mathlib.Core.Path.{◌≡◌}
 use lib.ListN.{length, take}
-use lib.Seq.{take_all}
 use Rattle.text.specs.Puts.{Puts}
-use Rattle.text.proofs.Joined.{puts_none, puts-append}
 use Rattle.course.specs.Desk.{events_said}
-use Rattle.voices.proofs.Events.{events-snoc}
 use Rattle.voices.proofs.put_events.Given as goal
 
 abbrev pub invariant-loop-i : goal.invariant-loop-i

@@ -1,6 +1,5 @@
 -- `voices::put_value` meets its contract: a read has an answer, and any other call none. Assumes nothing.
 use Rattle.text.proofs.Joined.{puts_none}
-use borrow.Author.Rules.{rules}
 use Rattle.voices.proofs.put_value.Goals as goal
 
 pub returns-in-WriteRegister : goal.returns-in-WriteRegister

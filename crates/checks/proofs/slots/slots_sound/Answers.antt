@@ -3,7 +3,7 @@
 -- Assumes nothing.
 use Rattle.cell.specs.Cell.{at}
 use lib.ListN.{length, length-set}
-use Prim.Native.Nat.{suc, ◌-◌, ◌<◌, ◌≤◌}
+use Prim.Native.Nat.{suc, ◌-◌, ◌<◌}
 use mathlib.Core.Path.{◌≡◌, refl, sym, ◌∙◌}
 use Rattle.checks.proofs.Marks.{Passed, none_passed, past, twice, next, all-passed, none-opened}
 use native.Mathlib.Omega.{arith}

@@ -1,12 +1,10 @@
 -- `checks::slots::slots_sound` meets its contract: an index without opened pages is sound. The loop's invariant: the entries from i on are
 -- within the opened pages, distinct, and marked.
 -- Assumes nothing.
-use Rattle.cell.specs.Cell.{at}
-use lib.ListN.{length, length-set}
-use Prim.Native.Nat.{suc, ◌-◌, ◌<◌, ◌≤◌}
-use mathlib.Core.Path.{◌≡◌, refl, sym, ◌∙◌}
-use Rattle.checks.proofs.Marks.{Passed, none_passed, past, twice, next, all-passed, none-opened}
-use native.Mathlib.Omega.{arith}
+use lib.ListN.{length}
+use Prim.Native.Nat.{◌≤◌}
+use mathlib.Core.Path.{◌≡◌}
+use Rattle.checks.proofs.Marks.{Passed}
 use Rattle.checks.proofs.slots.slots_sound.Given as goal
 
 abbrev pub invariant-loop-i : goal.invariant-loop-i

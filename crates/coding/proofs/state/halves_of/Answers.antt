@@ -1,7 +1,6 @@
 -- `coding::state::halves_of` meets its contract: the pending instant is what its callee ensures.
 -- Assumes nothing.
 use Rattle.layout.specs.Layout.{halves_of}
-use borrow.Author.Rules.{rules}
 use Rattle.coding.proofs.state.halves_of.Goals as goal
 
 pub returns : goal.returns

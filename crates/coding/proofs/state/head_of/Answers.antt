@@ -1,7 +1,6 @@
 -- `coding::state::head_of` meets its contract: each byte is what its callee ensures.
 -- Assumes nothing.
 use Rattle.layout.specs.Layout.{head_of}
-use borrow.Author.Rules.{rules}
 use Rattle.coding.proofs.state.head_of.Goals as goal
 
 pub returns : goal.returns

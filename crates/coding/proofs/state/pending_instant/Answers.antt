@@ -1,6 +1,5 @@
 -- `coding::state::pending_instant` meets its contract, by the arms of its match.
 -- Assumes nothing.
-use borrow.Author.Rules.{rules}
 use Rattle.coding.proofs.state.pending_instant.Goals as goal
 
 pub returns-in-Nothing : goal.returns-in-Nothing

@@ -2,7 +2,6 @@
 -- Assumes nothing.
 use Rattle.layout.specs.Layout.{flag_of, time_of, registers_of}
 use Rattle.cell.specs.Cell.{at}
-use borrow.Author.Rules.{rules}
 use Rattle.coding.proofs.state.registers_of.Goals as goal
 
 pub returns : goal.returns

@@ -1,6 +1,5 @@
 -- `host::calls::flash_read8` meets its contract: what `ask` tells, and the answer, or what stood in its place. Assumes nothing.
 use Rattle.host.proofs.Answered.{answer-given, answer-kept}
-use borrow.Author.Rules.{rules}
 use Rattle.host.proofs.calls.flash_read8.Goals as goal
 
 pub returns-then-answer-eq0 : goal.returns-then-answer-eq0

@@ -1,6 +1,5 @@
 -- `host::looks::flash_blank_page` meets its contract: the answer, or what stood in its place. Assumes nothing.
 use Rattle.host.proofs.Answered.{shown-given, shown-kept}
-use borrow.Author.Rules.{rules}
 use Rattle.host.proofs.looks.flash_blank_page.Goals as goal
 
 pub returns-then-page-eq0 : goal.returns-then-page-eq0

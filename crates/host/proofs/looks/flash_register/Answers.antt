@@ -1,6 +1,5 @@
 -- `host::looks::flash_register` meets its contract: the answer, or what stood in its place. Assumes nothing.
 use Rattle.host.proofs.Answered.{shown-given, shown-kept}
-use borrow.Author.Rules.{rules}
 use Rattle.host.proofs.looks.flash_register.Goals as goal
 
 pub returns-then-seen-eq0 : goal.returns-then-seen-eq0

@@ -1,6 +1,5 @@
 -- `host::snapshots::flash_validate` meets its contract: the answer, or what stood in its place. Assumes nothing.
 use Rattle.host.proofs.Answered.{shown-given, shown-kept}
-use borrow.Author.Rules.{rules}
 use Rattle.host.proofs.snapshots.flash_validate.Goals as goal
 
 pub returns-then-seen-eq0 : goal.returns-then-seen-eq0

@@ -1,6 +1,5 @@
 -- `host::snapshots::flash_write_snapshot` meets its contract: the length, or what stood in its place. Assumes nothing.
 use Rattle.host.proofs.Answered.{answer-given, answer-kept}
-use borrow.Author.Rules.{rules}
 use Rattle.host.proofs.snapshots.flash_write_snapshot.Goals as goal
 
 pub returns-then-written-eq0 : goal.returns-then-written-eq0

@@ -1,5 +1,4 @@
 -- `lent::checking::call_of` meets its contract: each arm knows the request, by which the definition computes. Assumes nothing.
-use borrow.Author.Rules.{rules}
 use Rattle.lent.proofs.checking.call_of.Goals as goal
 
 pub returns-in-WriteRegister : goal.returns-in-WriteRegister

@@ -1,7 +1,6 @@
 -- `lent::checking::call_refusal` meets its contract: the lines are tested in the order of the definition. Assumes nothing.
 use mathlib.Core.Path.{sym, ◌∙◌}
 use Rattle.lent.specs.Asked.{call_refusal}
-use borrow.Author.Rules.{rules}
 use Rattle.lent.proofs.checking.call_refusal.Goals as goal
 
 pub returns-then-misplaced : goal.returns-then-misplaced

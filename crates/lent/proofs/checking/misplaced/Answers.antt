@@ -1,6 +1,5 @@
 -- `lent::checking::misplaced` meets its contract: each arm knows the request, by which the definition computes. Assumes nothing.
 use native.Mathlib.Numerals.{add-one}
-use borrow.Author.Rules.{rules}
 use Rattle.lent.proofs.checking.misplaced.Goals as goal
 
 pub returns-in-Write8 : goal.returns-in-Write8

@@ -1,5 +1,4 @@
 -- `lent::checking::too_few_words` meets its contract: each arm knows the pulse, by which the definition computes. Assumes nothing.
-use borrow.Author.Rules.{rules}
 use Rattle.lent.proofs.checking.too_few_words.Goals as goal
 
 pub returns-in-Closed : goal.returns-in-Closed

@@ -1,9 +1,8 @@
 -- `lent::making::copy` meets its contract. The loop's invariant: the bytes passed are copied, and the others are as they were.
 -- Assumes nothing.
-use Rattle.lent.proofs.Copied.{copied, copied_turn, copied_all}
-use lib.ListN.{length, length-set}
-use Prim.Native.Nat.{◌≤◌, ◌-◌}
-use mathlib.Core.Path.{◌≡◌, refl, ◌∙◌}
+use Rattle.lent.proofs.Copied.{copied_turn, copied_all}
+use lib.ListN.{length-set}
+use mathlib.Core.Path.{refl, ◌∙◌}
 use native.Mathlib.Omega.{arith}
 use Rattle.lent.proofs.making.copy.Goals as goal
 

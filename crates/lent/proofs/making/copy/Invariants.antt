@@ -1,11 +1,9 @@
 -- `lent::making::copy` meets its contract. The loop's invariant: the bytes passed are copied, and the others are as they were.
 -- Assumes nothing.
-use Rattle.lent.proofs.Copied.{copied, copied_all}
-use Rattle.cell.proofs.Partly.{partly-turn}
-use lib.ListN.{length, length-set}
+use Rattle.lent.proofs.Copied.{copied}
+use lib.ListN.{length}
 use Prim.Native.Nat.{◌≤◌, ◌-◌}
-use mathlib.Core.Path.{◌≡◌, refl, ◌∙◌}
-use native.Mathlib.Omega.{arith}
+use mathlib.Core.Path.{◌≡◌}
 use Rattle.lent.proofs.making.copy.Given as goal
 
 abbrev pub invariant-loop-i : goal.invariant-loop-i

@@ -2,7 +2,6 @@
 use Rattle.flash.specs.Chip.{fresh_flash, blank_sensed, no_pages}
 use Rattle.time.specs.Raw.{instant}
 use mathlib.Core.Path.{refl}
-use borrow.Author.Rules.{rules}
 use Rattle.lent.proofs.making.fresh.Goals as goal
 
 pub returns : goal.returns

@@ -5,7 +5,6 @@ use Rattle.lent.specs.Looked.{new_refusal}
 use lib.ListN.{length}
 use borrow.Author.Tests.{ne_eqb, eq-eqb}
 use mathlib.Core.Path.{refl, sym, ◌∙◌}
-use borrow.Author.Rules.{rules}
 use Rattle.lent.proofs.making.make.Goals as goal
 
 pub returns-then-firmware-ne-FLASH_SIZE : goal.returns-then-firmware-ne-FLASH_SIZE

@@ -1,7 +1,6 @@
 -- `light::writing::recovery_in` meets its contract: each call gives one step of the definition.
 -- Assumes nothing.
 use Rattle.control.specs.Waits.{recovery_after}
-use borrow.Author.Rules.{rules}
 use Rattle.light.proofs.writing.recovery_in.Goals as goal
 
 pub returns : goal.returns

@@ -3,7 +3,6 @@
 use Rattle.control.specs.declared.Pending.TheVariants.{Nothing}
 use Rattle.light.proofs.Lights.{same-either}
 use Rattle.registers.specs.Access.{control_set}
-use borrow.Author.Rules.{rules}
 use Rattle.light.proofs.writing.set_control.Goals as goal
 
 pub returns : goal.returns

@@ -3,7 +3,6 @@
 use Rattle.registers.specs.Access.{register_set}
 use mathlib.Core.Path.{sym, ◌∙◌}
 use borrow.Author.Tests.{ne_eqb}
-use borrow.Author.Rules.{rules}
 use Rattle.light.proofs.writing.set_register.Goals as goal
 
 pub returns-then-has : goal.returns-then-has

@@ -3,7 +3,6 @@
 use Rattle.registers.proofs.Tests.{cond_yes}
 use Rattle.registers.specs.Access.{write_register, settled}
 use borrow.Author.Tests.{eq-eqb, ne_eqb}
-use borrow.Author.Rules.{rules}
 use Rattle.light.proofs.writing.write.Goals as goal
 
 pub returns-then-address-eq-FENR : goal.returns-then-address-eq-FENR

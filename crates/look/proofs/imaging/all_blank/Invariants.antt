@@ -1,13 +1,9 @@
 -- `look::imaging::all_blank` meets its contract. The loop's invariant: the page is blank if the bytes not yet passed are.
 -- Assumes nothing.
-use mathlib.Core.Path.{◌≡◌, sym, ◌∙◌}
+use mathlib.Core.Path.{◌≡◌}
 use Prim.Native.Nat.{◌+◌, ◌-◌, ◌≤◌}
-use native.Mathlib.Nat.{add-zero}
-use native.Mathlib.Omega.{arith}
-use borrow.Author.Rules.{rules}
-use borrow.Author.Tests.{eq-eqb, ne_eqb}
 use Rattle.flash.specs.Looking.{all_blank}
-use Rattle.flash.proofs.Look.{seen, blank_turn}
+use Rattle.flash.proofs.Look.{seen}
 use Rattle.look.proofs.imaging.all_blank.Given as goal
 
 abbrev pub invariant-loop-i : goal.invariant-loop-i

@@ -2,7 +2,6 @@
 -- Assumes nothing.
 use mathlib.Core.Path.{sym, ap, ◌∙◌}
 use Prim.Native.Nat.{◌*◌, ◌/◌}
-use borrow.Author.Rules.{rules}
 use Rattle.flash.specs.Looking.{all_blank, blank_at, image_at}
 use Rattle.settle.specs.Pages.{Cells}
 use Rattle.look.proofs.imaging.blank_page.Goals as goal

@@ -1,11 +1,8 @@
 -- `look::imaging::exposed_cells` meets its contract. The loop's invariant: each cell passed has moved.
 -- Assumes nothing.
-use mathlib.Core.Path.{◌≡◌, refl, ◌∙◌}
-use Prim.Native.Nat.{◌+◌, ◌-◌, ◌*◌, ◌≤◌}
+use mathlib.Core.Path.{refl, ◌∙◌}
 use native.Mathlib.Omega.{arith}
-use Rattle.time.specs.Raw.{span}
-use Rattle.cell.proofs.Partly.{partly, partly-turn, partly-all}
-use Rattle.flash.specs.Looking.{exposed_by}
+use Rattle.cell.proofs.Partly.{partly-turn, partly-all}
 use Rattle.look.proofs.imaging.exposed_cells.Invariants.{moved-there}
 use Rattle.look.proofs.imaging.exposed_cells.Goals as goal
 

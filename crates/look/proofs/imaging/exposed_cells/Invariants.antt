@@ -1,13 +1,12 @@
 -- `look::imaging::exposed_cells` meets its contract. The loop's invariant: each cell passed has moved.
 -- Assumes nothing.
-use mathlib.Core.Path.{◌≡◌, refl, ◌∙◌}
+use mathlib.Core.Path.{◌≡◌}
 use Prim.Native.Nat.{ℕ, ◌+◌, ◌-◌, ◌*◌, ◌≤◌}
-use native.Mathlib.Omega.{arith}
 use mathlib.Core.List.{List}
 use Rattle.time.specs.declared.Duration.{Duration}
 use Rattle.registers.specs.declared.Pulse.{Pulse}
 use Rattle.time.specs.Raw.{span}
-use Rattle.cell.proofs.Partly.{partly, partly-turn, partly-all}
+use Rattle.cell.proofs.Partly.{partly}
 use Rattle.flash.specs.Looking.{exposed_by}
 use Rattle.look.proofs.imaging.exposed_cells.Given as goal
 

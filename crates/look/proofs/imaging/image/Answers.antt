@@ -1,7 +1,6 @@
 -- `look::imaging::image` meets its contract: a settle is the look's exposure.
 -- Assumes nothing.
 use mathlib.Core.Path.{sym, ap, ◌∙◌}
-use borrow.Author.Rules.{rules}
 use lib.Seq.{sets}
 use Rattle.flash.specs.Looking.{image_at}
 use Rattle.settle.specs.Pages.{Cells}

@@ -2,8 +2,6 @@
 -- elsewhere it stays. Assumes nothing.
 use mathlib.Core.Path.{sym, ◌∙◌}
 use native.Mathlib.Omega.{arith}
-use borrow.Author.Tests.{not-true, not-false}
-use borrow.Author.Rules.{rules}
 use Rattle.flash.proofs.Look.{look-kept, look-byte}
 use Rattle.look.proofs.imaging.image_byte.Goals as goal
 

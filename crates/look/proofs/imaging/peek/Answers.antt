@@ -1,7 +1,6 @@
 -- `look::imaging::peek` meets its contract: a settle is the look's exposure.
 -- Assumes nothing.
 use mathlib.Core.Path.{sym, ap, ◌∙◌}
-use borrow.Author.Rules.{rules}
 use Rattle.cell.specs.Cell.{at}
 use Rattle.settle.specs.Pages.{Cells}
 use Rattle.flash.specs.Looking.{peek_at, image_at}

@@ -1,12 +1,11 @@
 -- `look::imaging::write_exposed` meets its contract. The loop's invariant: the first bytes of the image's page are stored, as many as were
 -- passed. Assumes nothing.
 use mathlib.Core.Path.{◌≡◌, refl, ap, ◌∙◌}
-use Prim.Native.Nat.{◌-◌, ◌≤◌}
 use native.Mathlib.Omega.{arith}
-use lib.ListN.{length, take, drop}
-use lib.Seq.{sets, length-sets}
+use lib.ListN.{length}
+use lib.Seq.{length-sets}
 use Rattle.settle.proofs.Expose.{expose-array-length}
-use Rattle.flash.proofs.Look.{seen, sets-turn}
+use Rattle.flash.proofs.Look.{sets-turn}
 use Rattle.look.proofs.imaging.write_exposed.Goals as goal
 
 pub loop-i-init : goal.loop-i-init

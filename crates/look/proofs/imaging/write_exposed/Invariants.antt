@@ -1,12 +1,10 @@
 -- `look::imaging::write_exposed` meets its contract. The loop's invariant: the first bytes of the image's page are stored, as many as were
 -- passed. Assumes nothing.
-use mathlib.Core.Path.{◌≡◌, refl, ap, ◌∙◌}
+use mathlib.Core.Path.{◌≡◌}
 use Prim.Native.Nat.{◌-◌, ◌≤◌}
-use native.Mathlib.Omega.{arith}
-use lib.ListN.{length, take, drop}
-use lib.Seq.{sets, length-sets}
-use Rattle.settle.proofs.Expose.{expose-array-length}
-use Rattle.flash.proofs.Look.{seen, sets-turn}
+use lib.ListN.{take, drop}
+use lib.Seq.{sets}
+use Rattle.flash.proofs.Look.{seen}
 use Rattle.look.proofs.imaging.write_exposed.Given as goal
 
 abbrev pub invariant-loop-i : goal.invariant-loop-i

@@ -1,17 +1,15 @@
 -- `look::imaging::write_image` meets its contract. The loop's invariant: the image's first pages are stored, as many as were passed. A page
 -- that the exposure does not reach is the stored one. Assumes nothing.
 use mathlib.Core.Path.{◌≡◌, refl, ap, sym, ◌∙◌}
-use mathlib.Core.Logic.{⊎_elim}
-use Prim.Native.Nat.{◌+◌, ◌-◌, ◌*◌, ◌≤◌}
+use Prim.Native.Nat.{◌+◌, ◌*◌}
 use native.Mathlib.Omega.{arith}
-use borrow.Author.Rules.{rules}
 use lib.ListN.{length, take, drop}
 use lib.Seq.{sets, length-sets}
 use Rattle.time.specs.Raw.{span}
 use Rattle.settle.specs.Pages.{Cells}
 use Rattle.settle.specs.Settling.{expose}
 use Rattle.settle.proofs.Expose.{expose-array-length}
-use Rattle.flash.proofs.Look.{seen, look-kept-page, sets_more, sets-all}
+use Rattle.flash.proofs.Look.{look-kept-page, sets_more, sets-all}
 use Rattle.look.proofs.imaging.write_image.Goals as goal
 use Rattle.look.proofs.imaging.write_image.Goals.{then-reaches, else-reaches}
 

@@ -1,10 +1,9 @@
 -- `look::imaging::write_stored` meets its contract. The loop's invariant: the page's first bytes are stored, as many as were passed.
 -- Assumes nothing.
 use mathlib.Core.Path.{◌≡◌, refl, ap, ◌∙◌}
-use Prim.Native.Nat.{◌-◌, ◌≤◌}
 use native.Mathlib.Omega.{arith}
-use lib.ListN.{length, take, drop}
-use lib.Seq.{sets, length-sets}
+use lib.ListN.{length}
+use lib.Seq.{length-sets}
 use Rattle.flash.proofs.Look.{sets-turn}
 use Rattle.look.proofs.imaging.write_stored.Goals as goal
 

@@ -1,11 +1,9 @@
 -- `look::imaging::write_stored` meets its contract. The loop's invariant: the page's first bytes are stored, as many as were passed.
 -- Assumes nothing.
-use mathlib.Core.Path.{◌≡◌, refl, ap, ◌∙◌}
+use mathlib.Core.Path.{◌≡◌}
 use Prim.Native.Nat.{◌-◌, ◌≤◌}
-use native.Mathlib.Omega.{arith}
-use lib.ListN.{length, take, drop}
-use lib.Seq.{sets, length-sets}
-use Rattle.flash.proofs.Look.{sets-turn}
+use lib.ListN.{take, drop}
+use lib.Seq.{sets}
 use Rattle.look.proofs.imaging.write_stored.Given as goal
 
 abbrev pub invariant-loop-i : goal.invariant-loop-i

@@ -1,7 +1,6 @@
 -- `look::looking::cell_charge` meets its contract: a settle is the look's exposure, and what that does to one cell needs sound slots
 -- alone. Assumes nothing.
 use mathlib.Core.Path.{sym, ap, ◌∙◌}
-use borrow.Author.Rules.{rules}
 use Rattle.settle.specs.Pages.{Cells, cell_at}
 use Rattle.flash.specs.Looking.{charge_at}
 use Rattle.flash.proofs.Look.{look-cell}

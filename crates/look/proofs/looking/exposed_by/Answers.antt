@@ -1,8 +1,6 @@
 -- `look::looking::exposed_by` meets its contract: a cell moves where the exposure reaches its page, and by the rule of one cell.
 -- Assumes nothing.
 use mathlib.Core.Path.{sym, ◌∙◌}
-use borrow.Author.Tests.{not-true, not-false}
-use borrow.Author.Rules.{rules}
 use Rattle.cell.specs.Cell.{page_bit}
 use Rattle.settle.specs.Settling.{charged}
 use Rattle.flash.proofs.Look.{exposed-if}

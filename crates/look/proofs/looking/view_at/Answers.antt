@@ -1,6 +1,5 @@
 -- `look::looking::view_at` meets its contract: without a pulse an exposure of 0 changes nothing, as a settle does; with one both
 -- exposures are the same number. Assumes nothing.
-use borrow.Author.Rules.{rules}
 use Rattle.time.proofs.Laws.{span-since}
 use Rattle.time.specs.Raw.{span}
 use Rattle.settle.specs.Settling.{settled_by, expose, exposure}

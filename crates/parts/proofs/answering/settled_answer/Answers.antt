@@ -6,7 +6,6 @@ use native.Mathlib.Numerals.{add-one}
 use Prim.Native.Nat.{suc, ◌<◌}
 use borrow.Author.Tests.{ltb-true}
 use native.Mathlib.Omega.{arith}
-use borrow.Author.Rules.{rules}
 use Rattle.parts.proofs.answering.settled_answer.Goals as goal
 
 pub overflow_add-a : goal.overflow_add-a

@@ -6,7 +6,6 @@ use mathlib.Core.Path.{refl, ◌∙◌}
 use Prim.Native.Nat.{suc, ◌<◌}
 use Rattle.registers.specs.Calls.{settles}
 use native.Mathlib.Omega.{arith}
-use borrow.Author.Rules.{rules}
 use Rattle.parts.proofs.answering.stored_answer.Goals as goal
 
 pub serve_byte-requires : goal.serve_byte-requires

@@ -1,5 +1,4 @@
 -- `parts::answering::unserved` meets its contract: each arm knows the pulse, by which the definition computes. Assumes nothing.
-use borrow.Author.Rules.{rules}
 use Rattle.parts.proofs.answering.unserved.Goals as goal
 
 pub returns-in-Closed : goal.returns-in-Closed

@@ -1,6 +1,5 @@
 -- `parts::answering::verified` meets its contract: its test is the definition's. Assumes nothing.
 use Rattle.flash.specs.Chip.{verified}
-use borrow.Author.Rules.{rules}
 use Rattle.parts.proofs.answering.verified.Goals as goal
 
 pub returns-then-verifies-supply_number : goal.returns-then-verifies-supply_number

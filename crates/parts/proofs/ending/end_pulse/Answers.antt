@@ -3,7 +3,6 @@ use borrow.Author.Tests.{eq-eqb, ne_eqb}
 use mathlib.Core.Path.{refl, sym, ◌∙◌}
 use Rattle.settle.specs.Settling.{ended, end_of}
 use native.Mathlib.Omega.{arith}
-use borrow.Author.Rules.{rules}
 use Rattle.parts.proofs.ending.end_pulse.Goals as goal
 
 pub returns-then-same_pulse : goal.returns-then-same_pulse

@@ -6,7 +6,6 @@ use Rattle.registers.specs.declared.Ending.{Ending}
 use Rattle.registers.specs.declared.Ending.TheVariants.{Completed, Interrupted}
 use Rattle.registers.specs.Calls.{ending_number}
 use native.Mathlib.Omega.{arith}
-use borrow.Author.Rules.{rules}
 use Rattle.parts.proofs.ending.end_word.Goals as goal
 
 -- the kinds of end event are 2 and 3

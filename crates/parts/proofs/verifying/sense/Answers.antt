@@ -1,7 +1,6 @@
 -- `parts::verifying::sense` meets its contract: its test is the definition's. Assumes nothing.
 use mathlib.Core.Path.{◌∙◌}
 use Rattle.settle.specs.Settling.{sensed_by}
-use borrow.Author.Rules.{rules}
 use Rattle.parts.proofs.verifying.sense.Goals as goal
 
 pub returns-then-sense_due-low : goal.returns-then-sense_due-low

@@ -2,17 +2,17 @@
 -- nothing.
 use mathlib.Core.Path.{sym, ◌≡◌, refl, ap, ◌∙◌}
 use lib.ListN.{length, replicate}
-use Prim.Native.Nat.{ℕ, ◌+◌, ◌-◌, ◌*◌, ◌≤◌}
+use Prim.Native.Nat.{ℕ, ◌+◌, ◌*◌}
 use mathlib.Core.List.{List}
 use Rattle.cell.specs.declared.Sense.{Sense}
 use Rattle.cell.specs.Cell.{at, tabulate, sensed_byte}
 use Rattle.cell.proofs.Table.{entry}
 use Rattle.cell.proofs.Sensed.{sensed_byte-same}
-use Rattle.cell.proofs.Partly.{partly, partly-turn, partly-all}
+use Rattle.cell.proofs.Partly.{partly-turn, partly-all}
 use Rattle.settle.specs.Pages.{Cells, cell_at}
 use Rattle.settle.specs.Settling.{four_sensed}
 use native.Mathlib.Omega.{arith}
-use Rattle.parts.proofs.verifying.sense_four.Invariants.{cells_in, four-there}
+use Rattle.parts.proofs.verifying.sense_four.Invariants.{four-there}
 use Rattle.parts.proofs.verifying.sense_four.Goals as goal
 
 -- the eight cells as a table are the cells

@@ -1,17 +1,12 @@
 -- `parts::verifying::sense_four` meets its contract. The loop's invariant: each place passed holds the byte that its cells sense. Assumes
 -- nothing.
-use mathlib.Core.Path.{sym, ◌≡◌, refl, ap, ◌∙◌}
-use lib.ListN.{length, replicate}
+use mathlib.Core.Path.{◌≡◌}
 use Prim.Native.Nat.{ℕ, ◌+◌, ◌-◌, ◌*◌, ◌≤◌}
 use mathlib.Core.List.{List}
 use Rattle.cell.specs.declared.Sense.{Sense}
-use Rattle.cell.specs.Cell.{at, tabulate, sensed_byte}
-use Rattle.cell.proofs.Table.{entry}
-use Rattle.cell.proofs.Sensed.{sensed_byte-same}
-use Rattle.cell.proofs.Partly.{partly, partly-turn, partly-all}
+use Rattle.cell.specs.Cell.{sensed_byte}
+use Rattle.cell.proofs.Partly.{partly}
 use Rattle.settle.specs.Pages.{Cells, cell_at}
-use Rattle.settle.specs.Settling.{four_sensed}
-use native.Mathlib.Omega.{arith}
 use Rattle.parts.proofs.verifying.sense_four.Given as goal
 
 abbrev pub cells_in : List ℕ → List ℕ → List ℕ → Cells

@@ -3,7 +3,6 @@
 use Rattle.snapshot.specs.Places.{flash_at}
 use Rattle.restore.proofs.Loaded.{state-least}
 use native.Mathlib.Omega.{arith}
-use borrow.Author.Rules.{rules}
 use Rattle.restore.proofs.loading.flash_at.Goals as goal
 
 pub time_at-since-requires : goal.time_at-since-requires

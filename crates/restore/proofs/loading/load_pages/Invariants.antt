@@ -1,14 +1,11 @@
 -- `restore::loading::load_pages` meets its contract. The loop's invariant: the charges of the pages passed are stored from the first slot on.
 -- Assumes nothing.
-use Prim.Native.Nat.{◌+◌, ◌-◌, ◌*◌, ◌≤◌}
-use mathlib.Core.Path.{◌≡◌, refl, ap, sym, ◌∙◌}
+use Prim.Native.Nat.{◌-◌, ◌≤◌}
+use mathlib.Core.Path.{◌≡◌}
 use lib.ListN.{length}
-use lib.Seq.{sets, length-sets}
-use borrow.Rule.Slice.PartMut.{mid_len}
+use lib.Seq.{sets}
 use Rattle.cell.specs.Cell.{array_cells}
-use Rattle.snapshot.specs.Places.{pages_place, pages_cells, page_at}
-use Rattle.restore.proofs.Loaded.{load-turn}
-use native.Mathlib.Omega.{arith}
+use Rattle.snapshot.specs.Places.{pages_place, pages_cells}
 use Rattle.restore.proofs.loading.load_pages.Given as goal
 
 abbrev pub invariant-loop-slot : goal.invariant-loop-slot

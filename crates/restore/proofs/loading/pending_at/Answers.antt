@@ -3,7 +3,6 @@
 use Rattle.restore.proofs.Loaded.{state-room, pending-room}
 use borrow.Author.Tests.{eq-eqb, ne_eqb}
 use native.Mathlib.Omega.{arith}
-use borrow.Author.Rules.{rules}
 use Rattle.restore.proofs.loading.pending_at.Goals as goal
 
 pub bounds-bytes-at : goal.bounds-bytes-at

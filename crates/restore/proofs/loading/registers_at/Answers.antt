@@ -5,7 +5,6 @@ use Rattle.cell.specs.Cell.{at}
 use Rattle.layout.specs.Layout.{flag_of}
 use Rattle.snapshot.specs.Places.{registers_at}
 use native.Mathlib.Omega.{arith}
-use borrow.Author.Rules.{rules}
 use Rattle.restore.proofs.loading.registers_at.Goals as goal
 
 pub overflow_add-at-9 : goal.overflow_add-at-9

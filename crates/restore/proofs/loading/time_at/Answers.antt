@@ -1,6 +1,5 @@
 -- `restore::loading::time_at` meets its contract: the halves are what `get64` ensures.
 -- Assumes nothing.
-use borrow.Author.Rules.{rules}
 use Rattle.restore.proofs.loading.time_at.Goals as goal
 
 pub returns : goal.returns

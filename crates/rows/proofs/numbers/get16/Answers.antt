@@ -3,7 +3,6 @@
 use Prim.Native.Nat.{◌+◌}
 use mathlib.Core.Path.{sym}
 use Rattle.layout.proofs.Widths.{word-one, word_split}
-use borrow.Author.Rules.{rules}
 use Rattle.rows.proofs.numbers.get16.Goals as goal
 
 pub returns : goal.returns

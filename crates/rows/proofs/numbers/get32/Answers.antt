@@ -2,7 +2,6 @@
 -- Assumes nothing.
 use mathlib.Core.Path.{sym}
 use Rattle.layout.proofs.Widths.{word_split}
-use borrow.Author.Rules.{rules}
 use Rattle.rows.proofs.numbers.get32.Goals as goal
 
 pub returns : goal.returns

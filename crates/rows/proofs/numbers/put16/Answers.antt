@@ -4,7 +4,6 @@ use lib.ListN.{set, length-set}
 use Prim.Native.Nat.{◌+◌, ◌%◌, ◌/◌}
 use Rattle.layout.proofs.Runs.{put_two, put_one}
 use native.Mathlib.Omega.{arith}
-use borrow.Author.Rules.{rules}
 use Rattle.rows.proofs.numbers.put16.Goals as goal
 
 pub bounds-s-at-2 : goal.bounds-s-at-2

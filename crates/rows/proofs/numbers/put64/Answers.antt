@@ -3,7 +3,6 @@
 use Prim.Native.Nat.{◌%◌, ◌/◌}
 use Rattle.layout.proofs.Runs.{put_two}
 use native.Mathlib.Omega.{arith}
-use borrow.Author.Rules.{rules}
 use Rattle.rows.proofs.numbers.put64.Goals as goal
 
 pub returns : goal.returns

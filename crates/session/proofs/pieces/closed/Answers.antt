@@ -1,7 +1,5 @@
 -- `session::pieces::closed` meets its contract. Assumes nothing.
-use native.Mathlib.Omega.{arith}
 use Rattle.session.proofs.Gone.{closes}
-use borrow.Author.Rules.{rules}
 use Rattle.session.proofs.pieces.closed.Goals as goal
 
 pub returns : goal.returns

@@ -1,7 +1,5 @@
 -- `session::stepping::next_step` meets its contract. Assumes nothing.
-use native.Mathlib.Omega.{arith}
 use Rattle.session.proofs.Gone.{stepped}
-use borrow.Author.Rules.{rules}
 use Rattle.session.proofs.stepping.next_step.Goals as goal
 
 pub returns : goal.returns

@@ -1,7 +1,6 @@
 -- `session::stepping::step_in_piece` meets its contract. Assumes nothing.
 use native.Mathlib.Omega.{arith}
 use lib.ListN.{length-take}
-use borrow.Author.Rules.{rules}
 use Rattle.session.proofs.stepping.step_in_piece.Goals as goal
 
 pub slice_bounds-step-end : goal.slice_bounds-step-end

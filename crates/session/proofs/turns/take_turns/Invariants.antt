@@ -1,7 +1,5 @@
 -- `session::turns::take_turns` meets its contract: what the turns so far did, and then one more. Assumes nothing.
-use native.Mathlib.Omega.{arith}
 use Rattle.session.specs.Going.{Standing, Goes, reader_in}
-use Rattle.session.proofs.Gone.{goes-nowhere, goes_on}
 use Rattle.session.proofs.turns.take_turns.Given as goal
 
 abbrev pub invariant-loop-turns : goal.invariant-loop-turns

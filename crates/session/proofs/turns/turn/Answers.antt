@@ -1,6 +1,5 @@
 -- `session::turns::turn` meets its contract. Assumes nothing.
 use Rattle.session.proofs.Gone.{goes-nowhere}
-use borrow.Author.Rules.{rules}
 use Rattle.session.proofs.turns.turn.Goals as goal
 
 pub returns-then-course : goal.returns-then-course

@@ -1,12 +1,9 @@
 -- `settle::pages::byte_cells` meets its contract. The loop's invariant: each place passed holds the charge of its cell.
 -- Assumes nothing.
-use Prim.Native.Nat.{ℕ, ◌+◌, ◌-◌, ◌*◌, ◌≤◌}
 use mathlib.Core.Path.{◌≡◌, refl, ◌∙◌}
-use mathlib.Core.List.{List}
 use native.Mathlib.Omega.{arith}
 use lib.ListN.{replicate}
-use Rattle.cell.proofs.Partly.{partly, partly-turn, partly-all}
-use Rattle.settle.specs.Pages.{cell_at}
+use Rattle.cell.proofs.Partly.{partly-turn, partly-all}
 use Rattle.settle.proofs.pages.byte_cells.Invariants.{cell-there}
 use Rattle.settle.proofs.pages.byte_cells.Goals as goal
 

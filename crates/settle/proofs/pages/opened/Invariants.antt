@@ -1,15 +1,9 @@
 -- `settle::pages::opened` meets its contract. The loop's invariant: the count, and the opened pages of the entries that are left, are together
 -- those of the index.
 -- Assumes nothing.
-use mathlib.Core.Path.{◌≡◌, refl, ap}
-use mathlib.Core.Logic.{◌≢◌}
-use mathlib.Core.List.{List, ◌∷◌}
-use Prim.Native.Nat.{ℕ, zero, suc, ◌+◌, ◌-◌, ◌≤◌, ◌<◌}
-use native.Mathlib.Numerals.{add-one}
-use native.Mathlib.Omega.{arith}
-use lib.ListN.{length, drop}
-use lib.Seq.{drop-cons, drop-length}
-use Rattle.cell.specs.Cell.{at}
+use mathlib.Core.Path.{◌≡◌}
+use Prim.Native.Nat.{◌+◌, ◌-◌, ◌≤◌}
+use lib.ListN.{drop}
 use Rattle.settle.specs.Pages.{opened}
 use Rattle.settle.proofs.pages.opened.Given as goal
 

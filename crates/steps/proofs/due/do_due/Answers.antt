@@ -1,7 +1,6 @@
 -- `steps::due::do_due` meets its contract. Assumes nothing.
 use mathlib.Core.Path.{sym, ap, ◌∙◌}
 use mathlib.Core.List.{cons≢nil}
-use borrow.Author.Rules.{rules}
 use Rattle.history.specs.History.{calls_of}
 use Rattle.steps.proofs.DueLines.{nothing-due, wrong-due, look-due}
 use Rattle.steps.proofs.due.do_due.Goals as goal

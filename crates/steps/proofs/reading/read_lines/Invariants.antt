@@ -1,10 +1,7 @@
 -- `steps::reading::read_lines` meets its contract: what the lines so far did, and then one more. Assumes nothing.
-use native.Mathlib.Omega.{arith}
 use Prim.Native.Nat.{◌-◌}
 use lib.ListN.{length}
-use borrow.Author.Rules.{rules}
 use Rattle.steps.specs.Stepping.{Reads}
-use Rattle.steps.proofs.Lines.{no_bytes, more-lines}
 use Rattle.steps.proofs.reading.read_lines.Given as goal
 
 abbrev pub invariant-loop-line : goal.invariant-loop-line

@@ -1,5 +1,4 @@
 -- `steps::reading::read_on` meets its contract. Assumes nothing.
-use borrow.Author.Rules.{rules}
 use Rattle.steps.proofs.Lines.{reading, line-goes-on, line-ends}
 use Rattle.steps.proofs.reading.read_on.Goals as goal
 

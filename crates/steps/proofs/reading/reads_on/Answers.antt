@@ -1,7 +1,6 @@
 -- `steps::reading::reads_on` meets its contract. Assumes nothing.
 use mathlib.Core.Bool.{true≢false}
 use mathlib.Core.Path.{sym}
-use borrow.Author.Rules.{rules}
 use Rattle.steps.proofs.reading.reads_on.Goals as goal
 
 pub returns-then-place : goal.returns-then-place

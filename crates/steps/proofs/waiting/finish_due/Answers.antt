@@ -1,6 +1,5 @@
 -- `steps::waiting::finish_due` meets its contract. Assumes nothing.
 use Rattle.steps.proofs.Desks.{all_done_lem}
-use borrow.Author.Rules.{rules}
 use Rattle.steps.proofs.waiting.finish_due.Goals as goal
 
 pub returns : goal.returns

@@ -1,5 +1,4 @@
 -- `steps::waiting::run_on` meets its contract. Assumes nothing.
-use borrow.Author.Rules.{rules}
 use Rattle.steps.proofs.waiting.run_on.Goals as goal
 
 pub returns : goal.returns

@@ -1,6 +1,5 @@
 -- `steps::waiting::serve_some` meets its contract. Assumes nothing.
 use Rattle.steps.proofs.Desks.{run-up-to}
-use borrow.Author.Rules.{rules}
 use Rattle.steps.proofs.waiting.serve_some.Goals as goal
 
 pub returns : goal.returns

@@ -1,6 +1,5 @@
 -- `summary::counting::put_counts` meets its contract: three texts, one after the other.
 -- Assumes nothing.
-use borrow.Author.Rules.{rules}
 use Rattle.text.proofs.Joined.{puts-append}
 use Rattle.summary.specs.Summary.{counts_text}
 use Rattle.summary.proofs.counting.put_counts.Goals as goal

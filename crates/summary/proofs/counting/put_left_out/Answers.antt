@@ -1,6 +1,5 @@
 -- `summary::counting::put_left_out` meets its contract: the branch that is taken is the definition's test.
 -- Assumes nothing.
-use borrow.Author.Rules.{rules}
 use borrow.Author.Tests.{eq-eqb, ne_eqb}
 use Rattle.text.proofs.Joined.{puts_none}
 use Rattle.summary.proofs.counting.put_left_out.Goals as goal

@@ -1,9 +1,7 @@
 -- `summary::counting::put_pulses` meets its contract. The loop's invariant: the lines of the blocks passed are put.
 -- Assumes nothing.
-use Prim.Native.Nat.{◌-◌}
 use native.Mathlib.Omega.{arith}
-use Rattle.summary.specs.Summary.{pulses_in}
-use Rattle.summary.proofs.Lines.{Lined, lined-none, lined-more, lined-all, lined-length}
+use Rattle.summary.proofs.Lines.{lined-none, lined-more, lined-all, lined-length}
 use Rattle.summary.proofs.counting.put_pulses.Goals as goal
 
 pub loop-block-init : goal.loop-block-init

@@ -1,9 +1,8 @@
 -- `summary::counting::put_pulses` meets its contract. The loop's invariant: the lines of the blocks passed are put.
 -- Assumes nothing.
 use Prim.Native.Nat.{◌-◌}
-use native.Mathlib.Omega.{arith}
 use Rattle.summary.specs.Summary.{pulses_in}
-use Rattle.summary.proofs.Lines.{Lined, lined-none, lined-more, lined-all, lined-length}
+use Rattle.summary.proofs.Lines.{Lined}
 use Rattle.summary.proofs.counting.put_pulses.Given as goal
 
 abbrev pub invariant-loop-block : goal.invariant-loop-block

@@ -4,7 +4,6 @@ use mathlib.Core.Path.{sym, ◌∙◌}
 use Prim.Native.Nat.{◌+◌}
 use native.Mathlib.Omega.{arith}
 use borrow.Author.Tests.{leb-true}
-use borrow.Author.Rules.{rules}
 use Rattle.summary.specs.Summary.{legible_among}
 use Rattle.summary.proofs.judging.legible_among.Goals as goal
 

@@ -1,6 +1,5 @@
 -- `summary::judging::put_judged` meets its contract: two texts, one after the other.
 -- Assumes nothing.
-use borrow.Author.Rules.{rules}
 use Rattle.text.proofs.Joined.{puts-append}
 use Rattle.summary.specs.Summary.{judged_text}
 use Rattle.summary.proofs.judging.put_judged.Goals as goal

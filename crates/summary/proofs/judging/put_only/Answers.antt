@@ -1,6 +1,5 @@
 -- `summary::judging::put_only` meets its contract: the tests are the definition's.
 -- Assumes nothing.
-use borrow.Author.Rules.{rules}
 use Rattle.text.proofs.Joined.{puts_none}
 use Rattle.summary.proofs.Inside.{some-inside}
 use Rattle.summary.proofs.judging.put_only.Goals as goal

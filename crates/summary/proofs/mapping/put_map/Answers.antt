@@ -1,6 +1,5 @@
 -- `summary::mapping::put_map` meets its contract: the head and the rows, one after the other, or nothing.
 -- Assumes nothing.
-use borrow.Author.Rules.{rules}
 use Rattle.text.proofs.Joined.{puts_none, puts-append}
 use Rattle.summary.specs.Summary.{map_text}
 use Rattle.summary.proofs.mapping.put_map.Goals as goal

@@ -1,9 +1,8 @@
 -- `summary::mapping::put_rows` meets its contract. The loop's invariant: the lines of the rows passed are put.
 -- Assumes nothing.
 use Prim.Native.Nat.{◌-◌}
-use native.Mathlib.Omega.{arith}
 use Rattle.summary.specs.Summary.{map_row}
-use Rattle.summary.proofs.Lines.{Lined, lined-none, lined-more, lined-all, lined-length}
+use Rattle.summary.proofs.Lines.{Lined}
 use Rattle.summary.proofs.mapping.put_rows.Given as goal
 
 abbrev pub invariant-loop-row : goal.invariant-loop-row

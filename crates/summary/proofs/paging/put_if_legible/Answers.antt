@@ -1,6 +1,5 @@
 -- `summary::paging::put_if_legible` meets its contract: the branch that is taken is the definition's test.
 -- Assumes nothing.
-use borrow.Author.Rules.{rules}
 use Rattle.text.proofs.Joined.{puts_none}
 use Rattle.summary.proofs.paging.put_if_legible.Goals as goal
 

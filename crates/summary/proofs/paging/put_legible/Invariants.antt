@@ -1,9 +1,8 @@
 -- `summary::paging::put_legible` meets its contract. The loop's invariant: the lines of the pages passed are put.
 -- Assumes nothing.
 use Prim.Native.Nat.{◌-◌}
-use native.Mathlib.Omega.{arith}
 use Rattle.summary.specs.Summary.{page_legible}
-use Rattle.summary.proofs.Lines.{Lined, lined-none, lined-more, lined-all, lined-length}
+use Rattle.summary.proofs.Lines.{Lined}
 use Rattle.summary.proofs.paging.put_legible.Given as goal
 
 abbrev pub invariant-loop-page : goal.invariant-loop-page

@@ -1,5 +1,4 @@
 -- `voices::looks::look_at` meets its contract: each kind of look is its own function's. Assumes nothing.
-use borrow.Author.Rules.{rules}
 use Rattle.voices.proofs.looks.look_at.Goals as goal
 
 pub returns-in-Whole : goal.returns-in-Whole

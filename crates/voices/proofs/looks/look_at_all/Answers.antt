@@ -1,7 +1,6 @@
 -- `voices::looks::look_at_all` meets its contract: how many pages are legible, or nothing on a refusal. Assumes nothing.
 use mathlib.Core.Path.{sym, ◌∙◌}
 use Rattle.voices.proofs.Sights.{looks-refused, looks-seen}
-use borrow.Author.Rules.{rules}
 use Rattle.voices.proofs.looks.look_at_all.Goals as goal
 
 pub returns-then-seen-ne0 : goal.returns-then-seen-ne0

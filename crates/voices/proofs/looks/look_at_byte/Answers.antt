@@ -1,6 +1,5 @@
 -- `voices::looks::look_at_byte` meets its contract: the byte and whether its page is blank, or nothing on a refusal. Assumes nothing.
 use Rattle.voices.proofs.Sights.{looks-refused, looks-seen, byte-seen}
-use borrow.Author.Rules.{rules}
 use Rattle.voices.proofs.looks.look_at_byte.Goals as goal
 
 pub returns-then-byte-ne0 : goal.returns-then-byte-ne0

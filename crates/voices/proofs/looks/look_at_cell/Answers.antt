@@ -1,6 +1,5 @@
 -- `voices::looks::look_at_cell` meets its contract: the cell's charge, or nothing on a refusal. Assumes nothing.
 use Rattle.voices.proofs.Sights.{looks-refused, looks-seen, cell-seen}
-use borrow.Author.Rules.{rules}
 use Rattle.voices.proofs.looks.look_at_cell.Goals as goal
 
 pub returns-then-cell-ne0 : goal.returns-then-cell-ne0
