@@ -1,5 +1,5 @@
 -- `scan::scan` meets its contract: the fields passed so far rewrite the definition to the next one. Assumes nothing.
-use Rattle.std.proofs.Common.{◌≤◌, length, sym, ap, ◌∙◌, arith, rules, lt-ltb}
+use Rattle.std.proofs.Common.{◌≤◌, length, sym, ap, ◌∙◌, arith, lt-ltb}
 use Rattle.cell.specs.Cell.{pages}
 use Rattle.snapshot.specs.Places.{count_number, scan_number}
 use Rattle.scan.proofs.Turns.{first_stops, first_passes, counted, place-small}
