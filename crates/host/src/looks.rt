@@ -1,4 +1,6 @@
 // Looking, and a new array: nothing changes but the output, or what is made.
+#![tactic(auto, using(crate::proofs::Answered::shown))]
+
 ghost use Rattle.std.specs.Prelude.{◌≡◌, length};
 ghost use Rattle.layout.specs.Layout.{record_length};
 ghost use Rattle.lent.specs.Looked.{answered, register_refusal, register_answer, normal_refusal, normal_answer, peek_refusal, peek_answer, charge_refusal, charge_answer, blank_refusal, blank_answer, image_refusal, image_left, new_refusal, new_record, new_array};
@@ -54,7 +56,6 @@ pub extern "C" fn flash_normal(record: &[u8], seconds: u64, fraction: u64, norma
 }
 
 // A byte of the image at a time.
-#[tactic(auto, using(crate::proofs::Answered::shown))]
 #[unsafe(no_mangle)]
 pub extern "C" fn flash_peek(
     record: &[u8],

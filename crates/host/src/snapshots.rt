@@ -11,6 +11,7 @@ use time::Time;
 use validity::see_valid;
 
 // Whether a record's state is valid at a time.
+#[tactic(auto, using(crate::proofs::Answered::shown))]
 #[unsafe(no_mangle)]
 pub extern "C" fn flash_validate(record: &[u8], seconds: u64, fraction: u64, valid: &mut u8) -> u32
     ensures { (result ≡ valid_refusal «record».now (record { 0 = seconds; 1 = fraction })) × (valid.new ≡ answered result (valid_answer «record».now (record { 0 = seconds; 1 = fraction })) valid.old) }
