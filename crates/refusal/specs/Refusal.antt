@@ -1,0 +1,29 @@
+-- The table of refusals: the number of each, and what an outcome tells. Document 01, "Order of checking".
+-- Assumes nothing.
+use Rattle.std.specs.Prelude.{ℕ, ◌≡◌, Result, Ok, Err}
+use Rattle.refusal.specs.declared.Refusal.{Refusal}
+use Rattle.refusal.specs.declared.Refusal.TheVariants.{Firmware, Memory, Record, Place, LastSecond, TooEarly, Events, Output, EndsEarly, Field, LeftOver, Invalid}
+
+abbrev pub number : Refusal → ℕ
+number Firmware = 1
+number Memory = 2
+number Record = 3
+number Place = 4
+number LastSecond = 5
+number TooEarly = 6
+number Events = 7
+number Output = 8
+number EndsEarly = 9
+number Field = 10
+number LeftOver = 11
+number Invalid = 12
+
+-- the number of an outcome: 0 where there is an answer
+abbrev pub told : {A : Type 0} → Result A Refusal → ℕ
+told (Ok _) = 0
+told (Err r) = number r
+
+-- an outcome is the answer where the number is 0, and else the refusal with that number
+abbrev pub Answers : {A : Type 0} → ℕ → A → Result A Refusal → Type 0
+Answers refusal answer (Ok value) = (refusal ≡ 0) × (value ≡ answer)
+Answers refusal answer (Err r) = number r ≡ refusal
