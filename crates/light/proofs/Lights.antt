@@ -9,7 +9,7 @@ use lib.Dec.{eqb, ltb, lit<}
 use Rattle.time.proofs.Bools.{both}
 use Rattle.time.specs.declared.Time.{Time}
 use Rattle.time.specs.Raw.{raw}
-use Rattle.control.specs.declared.Pending.TheVariants.{Nothing}
+use Rattle.std.specs.Prelude.{None}
 use Rattle.control.specs.Bits.{FENR, SWE, ESU, PSU, E, P, has, low}
 use Rattle.registers.specs.declared.Registers.{Registers}
 use Rattle.registers.specs.declared.OpenPulse.TheVariants.{Closed, Open}
@@ -72,7 +72,7 @@ light-says may control since what t e =
 
 -- ---- one write
 
-module _ (a v : ℕ) (t : Time) (k : Chip) (shut : pulse (registers k) ≡ Closed) (nothing : (registers k).verify_pending ≡ Nothing) where
+module _ (a v : ℕ) (t : Time) (k : Chip) (shut : pulse (registers k) ≡ Closed) (nothing : (registers k).verify_pending ≡ None) where
   abbrev written : Flash
   written =
       record { registers = write_register a v t (registers k); pulse_since = since_after (registers k).enabled a k.flash.pulse_since t; sensed = k.flash.sensed; indices = k.flash.indices }

@@ -11,7 +11,7 @@ use borrow.Author.Tests.{eqb-true, not-false}
 use Rattle.time.specs.declared.Time.{Time}
 use Rattle.registers.specs.declared.Registers.{Registers}
 use Rattle.control.specs.declared.Mode.{Mode}
-use Rattle.control.specs.declared.Pending.TheVariants.{Nothing}
+use Rattle.std.specs.Prelude.{None}
 use Rattle.registers.specs.declared.Pulse.{Pulse}
 use Rattle.registers.specs.declared.OpenPulse.{OpenPulse}
 use Rattle.registers.specs.declared.OpenPulse.TheVariants.{Closed, Open}
@@ -39,7 +39,7 @@ pub settled-fields : (now : Time) (r : Registers) → settled now r ≡ with_ver
 unfolding settled
 settled-fields now r = by (sense_due r.verify_pending r.supply now)
   where
-    by : (b : Bool) → cond b (with_verify_pending Nothing r) r ≡ with_verify_pending (cond b (with_verify_pending Nothing r) r).verify_pending r
+    by : (b : Bool) → cond b (with_verify_pending None r) r ≡ with_verify_pending (cond b (with_verify_pending None r) r).verify_pending r
     by true = refl
     by false = refl
 
@@ -55,7 +55,7 @@ pub settled-due : (now : Time) (r : Registers) → sense_due (settled now r).ver
 unfolding settled
 settled-due now r = by (sense_due r.verify_pending r.supply now) refl
   where
-    by : (b : Bool) → sense_due r.verify_pending r.supply now ≡ b → sense_due (cond b (with_verify_pending Nothing r) r).verify_pending (cond b (with_verify_pending Nothing r) r).supply now ≡ false
+    by : (b : Bool) → sense_due r.verify_pending r.supply now ≡ b → sense_due (cond b (with_verify_pending None r) r).verify_pending (cond b (with_verify_pending None r) r).supply now ≡ false
     by true e = refl
     by false e = e
 

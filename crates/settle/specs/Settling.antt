@@ -1,7 +1,7 @@
 -- Settling: exposure, charges, the range's bytes, event words, and the pending sense. Document 01, "Pulses and settling" and
 -- "Verify sensing, looking, snapshot".
 -- Assumes nothing.
-use Rattle.std.specs.Prelude.{ℕ, zero, suc, ◌+◌, ◌-◌, ◌*◌, ◌/◌, ◌%◌, ◌^◌, Bool, true, false, cond, ◌&&◌, List, [], ◌∷◌, ◌++◌, ◌≡◌, leb, ltb, eqb, length}
+use Rattle.std.specs.Prelude.{ℕ, zero, suc, ◌+◌, ◌-◌, ◌*◌, ◌/◌, ◌%◌, ◌^◌, Bool, true, false, cond, ◌&&◌, List, [], ◌∷◌, ◌++◌, ◌≡◌, leb, ltb, eqb, length, Option, Some, None}
 use Rattle.std.proofs.lemmas.List.Edits.{sets}
 use Rattle.time.specs.declared.Time.{Time}
 use Rattle.time.specs.Raw.{raw, later}
@@ -10,8 +10,7 @@ use Rattle.cell.specs.declared.Direction.TheVariants.{Program, Erase}
 use Rattle.cell.specs.declared.Sense.{Sense}
 use Rattle.cell.specs.declared.Sense.TheVariants.{Normal, ProgramVerify, EraseVerify}
 use Rattle.cell.specs.Cell.{page_bytes, page_cells, mapi, tabulate, sensed_byte, exposed, page_bit}
-use Rattle.control.specs.declared.Pending.{Pending}
-use Rattle.control.specs.declared.Pending.TheVariants as pending
+use Rattle.control.specs.declared.PendingSense.{PendingSense}
 use Rattle.control.specs.Bits.{EV, low, verifies}
 use Rattle.control.specs.Verify.{sense_due}
 use Rattle.registers.specs.declared.Registers.{Registers}
@@ -141,9 +140,9 @@ end_words c now r = ends_of c (next c now r).control (pulse r) (pulse (next c no
 abbrev pub verify_sense : ℕ → Sense
 verify_sense control = cond (eqb (low control) EV) EraseVerify ProgramVerify
 
-abbrev pub sense_address : Pending → ℕ
-sense_address pending.Nothing = 0
-sense_address (pending.Sense a t) = a
+abbrev pub sense_address : Option PendingSense → ℕ
+sense_address None = 0
+sense_address (Some sense) = sense.address
 
 -- the four bytes at address a
 unfoldable pub four_sensed : Sense → ℕ → Cells → List ℕ
