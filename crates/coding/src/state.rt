@@ -68,7 +68,10 @@ fn pending_of(option: u8, address: u16, instant: Time) -> Option<PendingSense>
     ensures { result ≡ pending_of option address instant }
 {
     if option == 1 {
-        Some(PendingSense { address, at: instant })
+        Some(PendingSense {
+            address,
+            at: instant,
+        })
     } else {
         None
     }

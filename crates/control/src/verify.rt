@@ -20,9 +20,5 @@ pub fn sense_due(pending: Option<PendingSense>, supply: Supply, now: Time) -> bo
 pub fn pending_after(old: u8, new: u8, pending: Option<PendingSense>) -> Option<PendingSense>
     ensures { result ≡ pending_after old new pending }
 {
-    if old % 16 == new % 16 {
-        pending
-    } else {
-        None
-    }
+    if old % 16 == new % 16 { pending } else { None }
 }

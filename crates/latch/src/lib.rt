@@ -45,7 +45,10 @@ fn sense_pending(registers: Registers, address: u16, now: Time) -> Registers
         .max(registers.recovery)
         .max(registers.ready);
     Registers {
-        verify_pending: Some(PendingSense { address: address / 4 * 4, at }),
+        verify_pending: Some(PendingSense {
+            address: address / 4 * 4,
+            at,
+        }),
         ..registers
     }
 }

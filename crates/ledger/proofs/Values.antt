@@ -21,8 +21,6 @@ use Rattle.control.specs.Waits.{reached, raised, renewed, recovery_after, verify
 use Rattle.control.specs.Verify.{sense_due}
 use Rattle.control.specs.Supplies.{supplied, starts, supply_in}
 use Rattle.registers.specs.declared.Registers.{Registers}
-use Rattle.registers.specs.declared.OpenPulse.{OpenPulse}
-use Rattle.registers.specs.declared.OpenPulse.TheVariants.{Closed, Open}
 use Rattle.registers.specs.declared.Call.{Call}
 use Rattle.registers.specs.declared.Call.TheVariants.{WriteRegister, Write8, Read8, Read16, Protect, Reset, PowerOff, Environment}
 use Rattle.registers.specs.Fields.{with_erase, with_verify_pending}
@@ -31,6 +29,7 @@ use Rattle.registers.specs.Latch.{takes_data, latched, data_taken, data_write, w
 use Rattle.registers.specs.Pulses.{pulse, is_open, normal, tripped, protect, read8}
 use Rattle.registers.specs.Environment.{blank_latch, cleared, reset, power_off, unchanged, clears, environment_set, environment}
 use Rattle.registers.specs.Calls.{next}
+use Rattle.registers.specs.declared.Pulse.{Pulse}
 use Rattle.registers.proofs.Laws.{read16-read8}
 
 -- what is asked of each sort of value
@@ -167,9 +166,9 @@ module _ (q : Ask) (now : Time) (s : Anew q now) where
   trip-short Program = omega arith
   trip-short Erase = omega arith
 
-  tripped-held : (o : OpenPulse) (r : Registers) → HeldBy q r → HeldBy q (tripped o now r)
-  tripped-held Closed r h = h
-  tripped-held (Open p) r h =
+  tripped-held : (o : Option Pulse) (r : Registers) → HeldBy q r → HeldBy q (tripped o now r)
+  tripped-held None r h = h
+  tripped-held (Some p) r h =
       record { control = h.control; erase = h.erase; latch = h.latch; page = h.page; ready = h.ready; swe_ready = h.swe_ready; program_ready = h.program_ready; erase_ready = h.erase_ready; recovery = later-held h.recovery (s.wait (trip_wait p.direction) (trip-short p.direction)); verify_ready = h.verify_ready; pending = h.pending }
 
   read_held : (r : Registers) → HeldBy q r → HeldBy q (read8 now r)

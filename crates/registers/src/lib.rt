@@ -90,12 +90,6 @@ pub struct Pulse {
     pub ready: Time,
 }
 
-#[derive(Clone, Copy)]
-pub enum OpenPulse {
-    Closed,
-    Open(Pulse),
-}
-
 // The calls that the ledger enters, with their arguments but the time.
 #[derive(Clone, Copy)]
 pub enum Call {
