@@ -33,8 +33,7 @@ fn value_in(word: u64) -> u64
 fn last_address(word: u64) -> u64
     ensures { result ≡ last_address word }
 {
-    let end = word / 0x1_0000 % 0x1_0000 + word % 0x1_0000;
-    if end == 0 { 0 } else { end - 1 }
+    (address_in(word) + value_in(word)).saturating_sub(1)
 }
 
 fn ended(out: &mut [u8], at: usize, word: u64) -> usize
@@ -54,14 +53,15 @@ fn put_happened(out: &mut [u8], at: usize, word: u64) -> usize
     ensures { Puts (happened word) at out.old out.new result }
 {
     if kind_in(word) == BYTE {
-        return say(
+        say(
             out,
             at,
             b": byte $ becomes &\n",
             &[address_in(word), value_in(word)],
-        );
+        )
+    } else {
+        ended(out, at, word)
     }
-    ended(out, at, word)
 }
 
 // An event with its time.
