@@ -92,3 +92,5 @@ take-fewer n words = by (dec_lt n (length words))
     by : Dec (n < length words) → take (min n (length words)) words ≡ take n words
     by (yes h) = let e : min n (length words) ≡ n = omega arith in rw e
     by (no h) = take_all (min n (length words)) words (omega arith) ∙ sym (take_all n words (omega arith))
+
+pub ruleset one_word = (other-kind, in_block, no_block)
