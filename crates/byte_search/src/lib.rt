@@ -1,20 +1,12 @@
-// Where a byte first stands in a stretch of bytes.
+// Where a byte first stands among some bytes.
 #![tactic(auto)]
 
-ghost use Rattle.std.specs.Prelude.{◌≡◌, ◌+◌, ◌≤◌, length};
-ghost use Rattle.byte_search.specs.Search.{slice, index_of};
+ghost use Rattle.std.specs.Prelude.{◌≡◌, eqb};
+ghost use Rattle.std.specs.List.{position};
 
-// The first place of a byte from `from` up to `to`, or `to` where it does not stand there.
-pub fn find(bytes: &[u8], from: usize, to: usize, byte: u8) -> usize
-    requires { (from ≤ to) × (to ≤ length bytes.now) }
-    ensures { (result ≡ from + index_of byte (slice from to bytes.now)) × (result ≤ to) }
+// The first place of a byte, if it stands there.
+pub fn find(bytes: &[u8], byte: u8) -> Option<usize>
+    ensures { result ≡ position (λ b. eqb b byte) bytes.now }
 {
-    let mut i = from;
-    while i < to {
-        if bytes[i] == byte {
-            return i;
-        }
-        i += 1;
-    }
-    to
+    bytes.iter().position(|b| *b == byte)
 }

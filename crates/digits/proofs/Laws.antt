@@ -3,6 +3,7 @@
 use mathlib.Core.Path.{◌≡◌, refl, ◌∙◌}
 use mathlib.Core.Bool.{Bool, true, false, cond}
 use mathlib.Core.List.{List, [], ◌∷◌}
+use Rattle.std.specs.Prelude.{Result, Ok, Err}
 use Prim.Native.Nat.{ℕ, suc, ◌+◌, ◌*◌, ◌^◌, ◌<◌, ◌≤◌}
 use native.Mathlib.Nat.{mul-le-mul_right, suc-mul, mul_assoc, mul_comm, one-mul, mul-one, le_trans, lt_of_lt_of_le, le-mul_of_pos_right, one-le-pow, pow-le-pow_right, pow-suc, pow-zero}
 use native.Mathlib.Omega.{arith}
@@ -10,16 +11,16 @@ use lib.Dec.{ltb, eqb, lit<, lit≤}
 use lib.ListN.{length}
 use borrow.Author.Tests.{ltb-true, ltb-false, lt-ltb, le-ltb, eqb-true}
 use Rattle.digits.specs.Digits.{digit_of, number_from, number_in, hex_in}
-use Rattle.digits.specs.declared.Number.{Number}
-use Rattle.digits.specs.declared.Number.TheVariants.{Is, TooLarge, Not}
+use Rattle.digits.specs.declared.NoNumber.{NoNumber}
+use Rattle.digits.specs.declared.NoNumber.TheVariants.{TooLarge, NotDigits}
 
 -- one byte more
 module _ (base n b : ℕ) (bs : List ℕ) where
-  pub no_digit : base ≤ digit_of b → number_from base n (b ∷ bs) ≡ Not
+  pub no_digit : base ≤ digit_of b → number_from base n (b ∷ bs) ≡ Err NotDigits
   unfolding number_from
   no_digit h = rw (le-ltb (digit_of b) base h)
 
-  pub one-too-large : digit_of b < base → 2 ^ 64 ≤ n * base + digit_of b → number_from base n (b ∷ bs) ≡ TooLarge
+  pub one-too-large : digit_of b < base → 2 ^ 64 ≤ n * base + digit_of b → number_from base n (b ∷ bs) ≡ Err TooLarge
   unfolding number_from
   one-too-large h l = rw (lt-ltb (digit_of b) base h, le-ltb (n * base + digit_of b) (2 ^ 64) l)
 
@@ -35,7 +36,7 @@ regrouped : (base w k : ℕ) → w * base * base ^ k ≡ w * base ^ suc k
 regrouped base w k = mul_assoc w base (base ^ k) ∙ rw (mul_comm base (base ^ k), pow-suc base k)
 
 -- what the digits after a number below w make of it
-from-below : (base w n m : ℕ) (bs : List ℕ) → n < w → number_from base n bs ≡ Is m → m < w * base ^ length bs
+from-below : (base w n m : ℕ) (bs : List ℕ) → n < w → number_from base n bs ≡ Ok m → m < w * base ^ length bs
 unfolding number_from
 from-below base w n m [] h e = let same : m ≡ n = cc in rw (pow-zero base, mul-one w) (omega arith)
 from-below base w n m (b ∷ bs) h e = by (ltb (digit_of b) base) (ltb (n * base + digit_of b) (2 ^ 64)) refl e (from-below base (w * base) (n * base + digit_of b) m bs)
@@ -43,15 +44,15 @@ from-below base w n m (b ∷ bs) h e = by (ltb (digit_of b) base) (ltb (n * base
     by :
         (p q : Bool)
         → ltb (digit_of b) base ≡ p
-        → cond p (cond q (number_from base (n * base + digit_of b) bs) TooLarge) Not ≡ Is m
-        → (n * base + digit_of b < w * base → number_from base (n * base + digit_of b) bs ≡ Is m → m < w * base * base ^ length bs)
+        → cond p (cond q (number_from base (n * base + digit_of b) bs) (Err TooLarge)) (Err NotDigits) ≡ Ok m
+        → (n * base + digit_of b < w * base → number_from base (n * base + digit_of b) bs ≡ Ok m → m < w * base * base ^ length bs)
         → m < w * base ^ suc (length bs)
     by true true d e rest = rw (regrouped base w (length bs)) at (rest (grown base w n (digit_of b) h (ltb-true _ _ d)) e)
     by true false d e rest = let z : ◌≡◌ {A = ℕ} 0 1 = cc in omega arith
     by false q d e rest = let z : ◌≡◌ {A = ℕ} 0 1 = cc in omega arith
 
 -- and that none of them passes 2^64 where so many digits can't
-from-fits : (base w n : ℕ) (bs : List ℕ) → n < w → w * base ^ length bs ≤ 2 ^ 64 → number_from base n bs ≡ TooLarge → ⊥
+from-fits : (base w n : ℕ) (bs : List ℕ) → n < w → w * base ^ length bs ≤ 2 ^ 64 → number_from base n bs ≡ Err TooLarge → ⊥
 unfolding number_from
 from-fits base w n [] h k e = let z : ◌≡◌ {A = ℕ} 0 1 = cc in omega arith
 from-fits base w n (b ∷ bs) h k e = by (ltb (digit_of b) base) (ltb (n * base + digit_of b) (2 ^ 64)) refl refl e (from-fits base (w * base) (n * base + digit_of b) bs)
@@ -63,8 +64,8 @@ from-fits base w n (b ∷ bs) h k e = by (ltb (digit_of b) base) (ltb (n * base 
         (p q : Bool)
         → ltb (digit_of b) base ≡ p
         → ltb (n * base + digit_of b) (2 ^ 64) ≡ q
-        → cond p (cond q (number_from base (n * base + digit_of b) bs) TooLarge) Not ≡ TooLarge
-        → (n * base + digit_of b < w * base → w * base * base ^ length bs ≤ 2 ^ 64 → number_from base (n * base + digit_of b) bs ≡ TooLarge → ⊥)
+        → cond p (cond q (number_from base (n * base + digit_of b) bs) (Err TooLarge)) (Err NotDigits) ≡ Err TooLarge
+        → (n * base + digit_of b < w * base → w * base * base ^ length bs ≤ 2 ^ 64 → number_from base (n * base + digit_of b) bs ≡ Err TooLarge → ⊥)
         → ⊥
     by true true d l e rest = rest (grown base w n (digit_of b) h (ltb-true _ _ d)) room e
     by true false d l e rest =
@@ -74,7 +75,7 @@ from-fits base w n (b ∷ bs) h k e = by (ltb (digit_of b) base) (ltb (n * base 
     by false q d l e rest = let z : ◌≡◌ {A = ℕ} 0 1 = cc in omega arith
 
 -- a number of 64 bits stays one
-from-64 : (base n m : ℕ) (bs : List ℕ) → n < 2 ^ 64 → number_from base n bs ≡ Is m → m < 2 ^ 64
+from-64 : (base n m : ℕ) (bs : List ℕ) → n < 2 ^ 64 → number_from base n bs ≡ Ok m → m < 2 ^ 64
 unfolding number_from
 from-64 base n m [] h e = let same : m ≡ n = cc in omega arith
 from-64 base n m (b ∷ bs) h e = by (ltb (digit_of b) base) (ltb (n * base + digit_of b) (2 ^ 64)) refl e (from-64 base (n * base + digit_of b) m bs)
@@ -82,8 +83,8 @@ from-64 base n m (b ∷ bs) h e = by (ltb (digit_of b) base) (ltb (n * base + di
     by :
         (p q : Bool)
         → ltb (n * base + digit_of b) (2 ^ 64) ≡ q
-        → cond p (cond q (number_from base (n * base + digit_of b) bs) TooLarge) Not ≡ Is m
-        → (n * base + digit_of b < 2 ^ 64 → number_from base (n * base + digit_of b) bs ≡ Is m → m < 2 ^ 64)
+        → cond p (cond q (number_from base (n * base + digit_of b) bs) (Err TooLarge)) (Err NotDigits) ≡ Ok m
+        → (n * base + digit_of b < 2 ^ 64 → number_from base (n * base + digit_of b) bs ≡ Ok m → m < 2 ^ 64)
         → m < 2 ^ 64
     by true true l e rest = rest (ltb-true _ _ l) e
     by true false l e rest = let z : ◌≡◌ {A = ℕ} 0 1 = cc in omega arith
@@ -91,46 +92,46 @@ from-64 base n m (b ∷ bs) h e = by (ltb (digit_of b) base) (ltb (n * base + di
 
 -- a number of k digits is below base ^ k, and below 2^64
 module _ (base n : ℕ) where
-  pub number-below : (bs : List ℕ) → number_in base bs ≡ Is n → n < base ^ length bs
+  pub number-below : (bs : List ℕ) → number_in base bs ≡ Ok n → n < base ^ length bs
   unfolding number_in
   number-below [] e = let z : ◌≡◌ {A = ℕ} 0 1 = cc in omega arith
   number-below (b ∷ bs) e = rw one-mul at (from-below base 1 0 n (b ∷ bs) (lit< tt) e)
 
-  pub number-64 : (bs : List ℕ) → number_in base bs ≡ Is n → n < 2 ^ 64
+  pub number-64 : (bs : List ℕ) → number_in base bs ≡ Ok n → n < 2 ^ 64
   unfolding number_in
   number-64 [] e = let z : ◌≡◌ {A = ℕ} 0 1 = cc in omega arith
   number-64 (b ∷ bs) e = from-64 base 0 n (b ∷ bs) (lit< tt) e
 
 -- so few digits are never too large
-pub number_fits : (base : ℕ) (bs : List ℕ) → base ^ length bs ≤ 2 ^ 64 → number_in base bs ≡ TooLarge → ⊥
+pub number_fits : (base : ℕ) (bs : List ℕ) → base ^ length bs ≤ 2 ^ 64 → number_in base bs ≡ Err TooLarge → ⊥
 unfolding number_in
 number_fits base [] h e = let z : ◌≡◌ {A = ℕ} 0 1 = cc in omega arith
 number_fits base (b ∷ bs) h e = from-fits base 1 0 (b ∷ bs) (lit< tt) (rw one-mul h) e
 
 -- of exactly k hexadecimal digits
 module _ (k : ℕ) (bs : List ℕ) where
-  hex-cases : {r : Number} → (Not ≡ r → ⊥) → hex_in k bs ≡ r → (length bs ≡ k) × (number_in 16 bs ≡ r)
+  hex-cases : {r : Result ℕ NoNumber} → (Err NotDigits ≡ r → ⊥) → hex_in k bs ≡ r → (length bs ≡ k) × (number_in 16 bs ≡ r)
   unfolding hex_in
   hex-cases {r} other e = by (eqb (length bs) k) refl e
     where
-      by : (p : Bool) → eqb (length bs) k ≡ p → cond p (number_in 16 bs) Not ≡ r → (length bs ≡ k) × (number_in 16 bs ≡ r)
+      by : (p : Bool) → eqb (length bs) k ≡ p → cond p (number_in 16 bs) (Err NotDigits) ≡ r → (length bs ≡ k) × (number_in 16 bs ≡ r)
       by true l e = (eqb-true _ _ l, e)
       by false l e = absurd (other e)
 
-  pub hex-below : (n : ℕ) → hex_in k bs ≡ Is n → n < 16 ^ k
+  pub hex-below : (n : ℕ) → hex_in k bs ≡ Ok n → n < 16 ^ k
   hex-below n e =
       let is = hex-cases (λ z. let z : ◌≡◌ {A = ℕ} 0 1 = cc in omega arith) e in
       rw is.0 at (number-below 16 n bs is.1)
 
-  pub hex-fits : k ≤ 16 → hex_in k bs ≡ TooLarge → ⊥
+  pub hex-fits : k ≤ 16 → hex_in k bs ≡ Err TooLarge → ⊥
   hex-fits h e =
       let is = hex-cases (λ z. let z : ◌≡◌ {A = ℕ} 0 1 = cc in omega arith) e in
       number_fits 16 bs (rw is.0 (pow-le-pow_right (lit< tt) h)) is.1
 
 -- of at most six decimal digits
 module _ (bs : List ℕ) (few : length bs ≤ 6) where
-  pub six-decimals-below : (n : ℕ) → number_in 10 bs ≡ Is n → n < 1000000
+  pub six-decimals-below : (n : ℕ) → number_in 10 bs ≡ Ok n → n < 1000000
   six-decimals-below n e = lt_of_lt_of_le (number-below 10 n bs e) (pow-le-pow_right (lit< tt) few)
 
-  pub six-decimals-fit : number_in 10 bs ≡ TooLarge → ⊥
+  pub six-decimals-fit : number_in 10 bs ≡ Err TooLarge → ⊥
   six-decimals-fit = number_fits 10 bs (le_trans (pow-le-pow_right (lit< tt) few) (lit≤ tt))

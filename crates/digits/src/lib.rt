@@ -1,79 +1,51 @@
-// Numbers written in a stretch of a line.
+// Numbers written in digits.
 #![tactic(auto)]
 
-ghost use Rattle.std.specs.Prelude.{◌≡◌, ◌≤◌, length};
-ghost use Rattle.byte_search.specs.Search.{slice};
-ghost use Rattle.digits.specs.Digits.{within, digit_of, number_in, hex_in};
+ghost use Rattle.std.specs.Prelude.{◌≡◌, ◌≤◌};
+ghost use Rattle.digits.specs.Digits.{number_in, hex_in};
 
-// What a stretch of a line is as a number.
-#[derive(Clone, Copy)]
-pub enum Number {
-    Is(u64),
+// Why a word is no number.
+#[derive(Clone, Copy, Debug, PartialEq, Eq)]
+pub enum NoNumber {
     TooLarge,
-    Not,
+    NotDigits,
 }
 
-fn within(first: u8, last: u8, b: u8) -> bool
-    ensures { result ≡ within first last b }
+// A number of 64 bits, by its digits in a base.
+#[tactic(auto, using(crate::proofs::Steps::steps))]
+fn number_in(word: &[u8], base: u32) -> Result<u64, NoNumber>
+    requires { (2 ≤ base) × (base ≤ 16) }
+    ensures { result ≡ number_in base word.now }
 {
-    (first <= b) & (b <= last)
-}
-
-fn digit(b: u8) -> u64
-    ensures { result ≡ digit_of b }
-{
-    if within(48, 57, b) {
-        return (b - 48) as u64;
-    }
-    if within(65, 70, b) {
-        return (b - 55) as u64;
-    }
-    if within(97, 102, b) {
-        return (b - 87) as u64;
-    }
-    16
-}
-
-// The next number is n * base + d. Whether it has 64 bits is asked of n, since the sum itself might wrap.
-fn number_in(line: &[u8], from: usize, to: usize, base: u64) -> Number
-    requires { (from ≤ to) × (to ≤ length line.now) × (1 ≤ base) × (base ≤ 16) }
-    ensures { result ≡ number_in base (slice from to line.now) }
-{
-    if from == to {
-        return Number::Not;
+    if word.is_empty() {
+        return Err(NoNumber::NotDigits);
     }
     let mut n: u64 = 0;
-    let mut i: usize = from;
-    while i < to {
-        let d = digit(line[i]);
-        if base <= d {
-            return Number::Not;
-        }
-        if (u64::MAX - d) / base < n {
-            return Number::TooLarge;
-        }
-        n = n * base + d;
-        i += 1;
+    for b in word {
+        let digit = char::from(*b).to_digit(base).ok_or(NoNumber::NotDigits)?;
+        let higher = n.checked_mul(u64::from(base)).ok_or(NoNumber::TooLarge)?;
+        n = higher
+            .checked_add(u64::from(digit))
+            .ok_or(NoNumber::TooLarge)?;
     }
-    Number::Is(n)
+    Ok(n)
 }
 
 // A decimal number.
-pub fn decimal(line: &[u8], from: usize, to: usize) -> Number
-    requires { (from ≤ to) × (to ≤ length line.now) }
-    ensures { result ≡ number_in 10 (slice from to line.now) }
+pub fn decimal(word: &[u8]) -> Result<u64, NoNumber>
+    ensures { result ≡ number_in 10 word.now }
 {
-    number_in(line, from, to, 10)
+    number_in(word, 10)
 }
 
 // A hexadecimal number of so many digits, no more and no fewer.
-pub fn hexadecimal(line: &[u8], from: usize, to: usize, digits: usize) -> Number
-    requires { (from ≤ to) × (to ≤ length line.now) }
-    ensures { result ≡ hex_in digits (slice from to line.now) }
+#[tactic(auto, unfolding(crate::specs::Digits::hex_in))]
+pub fn hexadecimal(word: &[u8], digits: usize) -> Result<u64, NoNumber>
+    ensures { result ≡ hex_in digits word.now }
 {
-    if to - from == digits {
-        number_in(line, from, to, 16)
+    if word.len() == digits {
+        number_in(word, 16)
     } else {
-        Number::Not
+        Err(NoNumber::NotDigits)
     }
 }

@@ -1,4 +1,2 @@
-pub mod Runs
 pub mod Spelled
-pub mod Parts
-pub mod Places
+pub mod Next

@@ -1,64 +1,75 @@
-// Words of a line, and whether a stretch of a line spells a name.
+// Words of a line, and whether a word spells a name.
 #![tactic(auto)]
 
-ghost use Rattle.std.specs.Prelude.{◌≡◌, ◌≤◌, length};
-ghost use Rattle.words.specs.Words.{blank, in_word, RunEnd, NextWord};
+ghost use Rattle.std.specs.Prelude.{◌≡◌, ◌≤◌, length, eqb};
+ghost use Rattle.std.specs.List.{prefix_len};
+ghost use Rattle.byte_search.specs.Search.{slice};
+ghost use Rattle.words.specs.Words.{blank, in_word, word_at};
 
 pub mod spelling;
 
 // A stretch of a line, from its first byte up to, not including, `to`. An empty one is no word, and stands where a word would begin.
-#[derive(Clone, Copy)]
+#[derive(Clone, Copy, Debug, PartialEq, Eq)]
 pub struct Word {
     pub from: usize,
     pub to: usize,
 }
 
+impl Word {
+    // Whether no word stands there.
+    pub fn is_empty(self) -> bool
+        ensures { result ≡ eqb self.from self.to }
+    {
+        self.from == self.to
+    }
+
+    // The bytes of a word.
+    pub fn text(self, line: &[u8]) -> &[u8]
+        requires { (self.from ≤ self.to) × (self.to ≤ length line.now) }
+        ensures { result.now ≡ slice self.from self.to line.now }
+    {
+        &line[self.from..self.to]
+    }
+}
+
 fn blank(b: u8) -> bool
     ensures { result ≡ blank b }
 {
-    (b == b' ') | (b == b'\t') | (b == b'\r')
+    b == b' ' || b == b'\t' || b == b'\r'
 }
 
 fn in_word(b: u8) -> bool
     ensures { result ≡ in_word b }
 {
-    !(blank(b) | (b == b'#'))
+    !(blank(b) || b == b'#')
 }
 
-fn past_blanks(line: &[u8], at: usize) -> usize
-    requires { at ≤ length line.now }
-    ensures { RunEnd blank line.now at result }
+// How many blanks stand first.
+fn blanks(bytes: &[u8]) -> usize
+    ensures is { result ≡ prefix_len blank bytes.now }
+    ensures inside { result ≤ length bytes.now }
 {
-    let mut i = at;
-    while i < line.len() {
-        if !blank(line[i]) {
-            return i;
-        }
-        i += 1;
-    }
-    i
+    bytes.iter().take_while(|b| blank(**b)).count()
 }
 
-fn past_word(line: &[u8], at: usize) -> usize
-    requires { at ≤ length line.now }
-    ensures { RunEnd in_word line.now at result }
+// How many bytes of a word stand first.
+fn letters(bytes: &[u8]) -> usize
+    ensures is { result ≡ prefix_len in_word bytes.now }
+    ensures inside { result ≤ length bytes.now }
 {
-    let mut i = at;
-    while i < line.len() {
-        if !in_word(line[i]) {
-            return i;
-        }
-        i += 1;
-    }
-    i
+    bytes.iter().take_while(|b| in_word(**b)).count()
 }
 
 // The next word from a place on.
+#[tactic(auto, using(crate::proofs::Next::is_word))]
 pub fn word_at(line: &[u8], at: usize) -> Word
     requires { at ≤ length line.now }
-    ensures { NextWord line.now at result }
+    ensures is { result ≡ word_at line.now at }
+    ensures after { at ≤ result.from }
+    ensures ordered { result.from ≤ result.to }
+    ensures inside { result.to ≤ length line.now }
 {
-    let from = past_blanks(line, at);
-    let to = past_word(line, from);
+    let from = at + blanks(&line[at..]);
+    let to = from + letters(&line[from..]);
     Word { from, to }
 }

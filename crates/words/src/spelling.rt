@@ -1,55 +1,34 @@
-// Whether a stretch of a line spells a name, and which of several it spells.
-ghost use Rattle.std.specs.Prelude.{◌≡◌, ◌≤◌, length};
-ghost use Rattle.byte_search.specs.Search.{slice};
-ghost use Rattle.words.specs.Text.{capital, spells, split, place_of};
+// Whether a word spells a name, and what it means by a table of names.
+ghost use Rattle.std.specs.Prelude.{◌≡◌, map, eqb};
+ghost use Rattle.std.specs.List.{list_all, zip};
+ghost use Rattle.std.specs.Char.{to_ascii_uppercase};
+ghost use Rattle.words.specs.Text.{spells, named};
 
-use byte_search::find;
-
-fn capital(b: u8) -> u8
-    ensures { result ≡ capital b }
+// Whether a word spells a name that is written in capitals.
+#[tactic(auto, using(crate::proofs::Spelled::other_length))]
+pub fn spells(word: &[u8], name: &str) -> bool
+    ensures { result ≡ spells name.now word.now }
 {
-    if 97 <= b {
-        if b <= 122 {
-            return b - 32;
-        }
-    }
-    b
+    word.len() == name.len() && beside(word, name.as_bytes())
 }
 
-// Whether the bytes from `from` up to `to` spell a name that is written in capitals.
-pub fn spells(line: &[u8], from: usize, to: usize, name: &[u8]) -> bool
-    requires { (from ≤ to) × (to ≤ length line.now) }
-    ensures { result ≡ spells name.now (slice from to line.now) }
+// Whether each byte in capitals is the name's at its place.
+fn beside(word: &[u8], name: &[u8]) -> bool
+    ensures { result ≡ list_all (λ e. eqb (to_ascii_uppercase e.0) e.1) (zip word.now name.now) }
 {
-    if to - from != name.len() {
-        return false;
-    }
-    let mut i: usize = 0;
-    while i < name.len() {
-        if capital(line[from + i]) != name[i] {
-            return false;
-        }
-        i += 1;
-    }
-    true
+    word.iter()
+        .zip(name)
+        .all(|(b, n)| b.to_ascii_uppercase() == *n)
 }
 
-// Which of the names, which stand in one text with a space between each two, the bytes from `from` up to `to` spell.
-pub fn place(line: &[u8], from: usize, to: usize, names: &[u8]) -> usize
-    requires { (from ≤ to) × (to ≤ length line.now) }
-    ensures { result ≡ place_of (split 32 names.now) (slice from to line.now) }
+// What the first entry of a table means whose name a word spells.
+pub fn named<A: Copy>(word: &[u8], table: &[(&str, A)]) -> Option<A>
+    ensures { result ≡ named (map (λ e. (e.0.now, e.1)) table.now) word.now }
 {
-    let mut i: usize = 0;
-    let mut passed: usize = 0;
-    loop {
-        let end = find(names, i, names.len(), b' ');
-        if spells(line, from, to, &names[i..end]) {
-            return passed;
+    for (name, meaning) in table {
+        if spells(word, name) {
+            return Some(*meaning);
         }
-        passed += 1;
-        if end == names.len() {
-            return passed;
-        }
-        i = end + 1;
     }
+    None
 }
