@@ -1,20 +1,23 @@
 -- What writing a snapshot tells, from its checks: the first line that is given makes the number; and what the output is where none is. Assumes nothing.
-use mathlib.Core.Path.{◌≡◌, refl, sym}
-use mathlib.Core.Bool.{true, false}
-use mathlib.Core.List.{List, ◌++◌}
+use mathlib.Core.Path.{◌≡◌, sym, ◌∙◌}
+use mathlib.Core.Logic.{◌≢◌}
+use mathlib.Core.Bool.{cond}
+use mathlib.Core.List.{List, [], ◌∷◌, ◌++◌}
 use Prim.Native.Nat.{ℕ, ◌+◌, ◌-◌, ◌≤◌, ◌<◌}
 use native.Mathlib.Omega.{arith}
+use lib.Dec.{ltb}
 use borrow.Author.Tests.{lt-ltb, le-ltb}
 use lib.ListN.{length, drop}
 use lib.Seq.{sets, sets-eq}
-use Rattle.cell.specs.Cell.{at}
+use Rattle.cell.specs.Cell.{at, array_bytes, array_cells}
 use Rattle.settle.specs.Pages.{opened}
 use Rattle.settle.proofs.Slots.{opened-le}
 use Rattle.flash.specs.declared.Flash.{Flash}
-use Rattle.layout.specs.Layout.{accepted, decoded}
+use Rattle.layout.specs.Layout.{decoded}
 use Rattle.layout.proofs.Back.{decoded-index, decoded-fits}
-use Rattle.lent.specs.Memory.{Memory, chip_in, misfits}
-use Rattle.lent.proofs.Fitted.{Sizes}
+use Rattle.lent.specs.Memory.{Memory, chip_in, check}
+use Rattle.lent.specs.Looked.{memory_checks, memory_refusal}
+use Rattle.lent.proofs.Lines.{given-first, given-after}
 use Rattle.snapshot.specs.Snapshot.{snapshot_of, snapshot_length}
 use Rattle.snapshot.specs.Asked.{write_refusal}
 use Rattle.snapshot.proofs.Length.{length-snapshot}
@@ -25,28 +28,27 @@ put_front new out vs n e d h = let f : n - 0 ≡ 0 + length vs = omega arith in 
 
 module _ (m : Memory) where
   -- the length, from the state that the record holds
-  pub length-written : (s : Flash) (count n : ℕ) → Sizes (length m.bytes) (length m.array) (length m.charges)
-      → ((k : ℕ) → at m.bytes k < 256) → s ≡ decoded m.bytes → count ≡ opened s.indices
+  pub length-written : (s : Flash) (count n : ℕ) → length m.array ≡ array_bytes → length m.charges ≡ array_cells → ((k : ℕ) → at m.bytes k < 256) → s ≡ decoded m.bytes → count ≡ opened s.indices
       → n ≡ snapshot_length count s.registers.verify_pending → n ≡ length (snapshot_of (chip_in m))
-  length-written s count n z b e c l =
+  length-written s count n y z b e c l =
       let few = opened-le (decoded m.bytes).indices in
       let long = decoded-index m.bytes in
-      rw (l, c, e) (sym (length-snapshot (chip_in m) z.array_long z.charges_long (omega arith) (decoded-fits m.bytes b)))
+      rw (l, c, e) (sym (length-snapshot (chip_in m) y z (omega arith) (decoded-fits m.bytes b)))
 
   module _ (room : ℕ) where
-    pub told-2 : misfits m ≡ true → 2 ≡ write_refusal room m
-    unfolding write_refusal
-    told-2 a = rw a
+    -- a refusal of the memory comes first
+    pub told-first : {n : ℕ} → n ≡ memory_refusal m → n ≢ 0 → n ≡ write_refusal room m
+    unfolding memory_refusal write_refusal
+    told-first e h = given-first (memory_checks m) (check 8 (ltb room (length (snapshot_of (chip_in m)))) ∷ []) _ e h
 
-    pub told-3 : misfits m ≡ false → accepted m.bytes ≡ false → 3 ≡ write_refusal room m
-    unfolding write_refusal
-    told-3 a b = rw (a, b)
+    module _ (a : memory_refusal m ≡ 0) (n : ℕ) (e : n ≡ length (snapshot_of (chip_in m))) where
+      told-after : write_refusal room m ≡ cond (ltb room (length (snapshot_of (chip_in m)))) 8 0
+      unfolding memory_refusal write_refusal
+      told-after =
+          given-after (memory_checks m) (check 8 (ltb room (length (snapshot_of (chip_in m)))) ∷ []) (omega arith, (omega arith, tt)) a
 
-    module _ (a : misfits m ≡ false) (b : accepted m.bytes ≡ true) (n : ℕ) (e : n ≡ length (snapshot_of (chip_in m))) where
       pub told-8 : room < n → 8 ≡ write_refusal room m
-      unfolding write_refusal
-      told-8 h = rw (a, b, ← e, lt-ltb room n h)
+      told-8 h = sym (told-after ∙ rw (← e, lt-ltb room n h))
 
       pub told-none : n ≤ room → write_refusal room m ≡ 0
-      unfolding write_refusal
-      told-none h = rw (a, b, ← e, le-ltb room n h)
+      told-none h = told-after ∙ rw (← e, le-ltb room n h)

@@ -13,13 +13,10 @@ ghost use Rattle.snapshot.specs.Asked.{write_refusal, written_out};
 ghost use Rattle.snapshot.specs.Places.{pages_place, page_at};
 
 use cell::{PAGE, PAGE_CELLS, PAGES};
-use checks::accepts;
-use coding::read;
 use coding::state::flag_byte;
 use control::Pending;
 use control::supplies::{mode_number, supply_number};
 use flash::Flash;
-use lent::checking::sizes_misfit;
 use refusal::Refusal;
 use rows::numbers::Number;
 use rows::put_row;
@@ -193,13 +190,7 @@ pub fn write_snapshot(
     ensures answer { Answers (write_refusal (length out.old) (record { bytes = «record».now; array = array.now; charges = charges.now })) (length (snapshot_of (chip_in (record { bytes = «record».now; array = array.now; charges = charges.now })))) result }
     ensures out { out.new ≡ written_out (told result) (record { bytes = «record».now; array = array.now; charges = charges.now }) out.old }
 {
-    if sizes_misfit(record.len(), array.len(), charges.len()) {
-        return Err(Refusal::Memory);
-    }
-    if !accepts(record) {
-        return Err(Refusal::Record);
-    }
-    let flash = read(record);
+    let flash = lent::opening::opened(record, array, charges)?;
     let indices = flash.indices;
     let r = flash.registers;
     let pending = r.verify_pending;

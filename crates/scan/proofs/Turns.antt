@@ -9,8 +9,8 @@ use Rattle.cell.specs.Cell.{at, page_bytes, page_cells, pages, array_bytes}
 use Rattle.flash.specs.Chip.{no_pages}
 use Rattle.layout.specs.Layout.{word, placed}
 use Rattle.refusal.specs.declared.Refusal.{Refusal}
-use Rattle.refusal.specs.declared.Refusal.TheVariants.{Firmware, Memory, Record, Place, LastSecond, TooEarly, Events, Output, EndsEarly, Field, LeftOver, Invalid}
 use Rattle.refusal.specs.Refusal.{number}
+use Rattle.refusal.proofs.Outcomes.{number-some}
 use Rattle.snapshot.specs.Asked.{first}
 use Rattle.snapshot.specs.Places.{pages_place, page_length, page_at, count_in, cells_number, address_number, with_page, pages_number, pages_index, bytes_number, state_length, state_number, count_number, scan_number}
 
@@ -34,18 +34,7 @@ on_ok (Err e) p = tt
 
 -- the number of a refusal isn't 0
 pub refused : (r : Refusal) → number r ≡ 0 → ⊥
-refused Firmware e = omega arith
-refused Memory e = omega arith
-refused Record e = omega arith
-refused Place e = omega arith
-refused LastSecond e = omega arith
-refused TooEarly e = omega arith
-refused Events e = omega arith
-refused Output e = omega arith
-refused EndsEarly e = omega arith
-refused Field e = omega arith
-refused LeftOver e = omega arith
-refused Invalid e = omega arith
+refused r e = omega (arith, number-some r)
 
 -- ---- what is not refused
 

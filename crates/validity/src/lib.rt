@@ -2,17 +2,17 @@
 #![tactic(auto)]
 
 ghost use Rattle.std.specs.Prelude.{◌≡◌};
-ghost use Rattle.lent.specs.Looked.{Shown};
-ghost use Rattle.snapshot.specs.Asked.{pending_placed, valid, valid_refusal, valid_answer};
+ghost use Rattle.layout.specs.Layout.{decoded};
+ghost use Rattle.refusal.specs.Refusal.{Answers};
+ghost use Rattle.snapshot.specs.Asked.{pending_placed, valid, valid_refusal};
 
 use checks::{PAGE_BYTES, legible, placed};
 use coding::read;
-use coding::state::flag_byte;
 use control::Pending;
 use flash::Flash;
 use layout::RECORD_LEN;
 use lent::checking::last_second;
-use see::Seen;
+use refusal::Refusal;
 use time::Time;
 
 // A pending sense is of four aligned bytes inside the array.
@@ -41,7 +41,7 @@ pub fn valid(time: Time, flash: Flash) -> bool
 
 // Whether a record's state is valid at a time: what this tests is not refused by 3, nor a time before the last settling by 6.
 pub fn see_valid(record: &[u8], time: Time) -> Result<bool, Refusal>
-    ensures { Says (valid_refusal «record».now time) (valid_answer «record».now time) result }
+    ensures { Answers (valid_refusal «record».now time) (valid time (decoded «record».now)) result }
 {
     if record.len() != RECORD_LEN {
         return Err(Refusal::Memory);

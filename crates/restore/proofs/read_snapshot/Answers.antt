@@ -1,5 +1,5 @@
 use mathlib.Core.Path.{refl, sym, ◌∙◌}
-use Rattle.std.proofs.lemmas.Result.{err_from_is_err_and}
+use Rattle.refusal.proofs.Outcomes.{passed-on}
 use Rattle.lent.proofs.Fitted.{sizes-fit}
 use Rattle.scan.proofs.Turns.{refused}
 use Rattle.restore.proofs.Taken.{sizes-refused, time-refused, scan-refused, read-by-place}
@@ -16,8 +16,7 @@ returns-then-last_second c = (
 
 pub returns-in_err-indices : goal.returns-in_err-indices
 returns-in_err-indices c =
-    let p = err_from_is_err_and c.from_residual.result c.from_residual.ensures.1 in
-    rw (p.1, p.2) (scan-refused _ _ _ (λ j. (c.shared_slice_known-1.given j).fits) (sym c.sizes_misfit.ensures ∙ c.if-sizes_misfit.false)
+    rw (passed-on _ c.from_residual.ensures.1) (scan-refused _ _ _ (λ j. (c.shared_slice_known-1.given j).fits) (sym c.sizes_misfit.ensures ∙ c.if-sizes_misfit.false)
     (sym c.last_second.ensures ∙ c.if-last_second.false) _ c.in_err-indices.ensures (refused _))
 
 pub take-requires : goal.take-requires

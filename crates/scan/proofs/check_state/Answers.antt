@@ -1,6 +1,6 @@
 -- `scan::check_state` meets its contract: the fields passed so far rewrite the definition to the next one. Assumes nothing.
 use Rattle.std.proofs.Common.{◌+◌, [], sym, arith}
-use Rattle.std.proofs.lemmas.Result.{err_from_is_err_and}
+use Rattle.refusal.proofs.Outcomes.{passed-on}
 use Rattle.snapshot.specs.Places.{state_number}
 use Rattle.scan.proofs.Turns.{first_stops, byte-there, state-small, refused}
 use Rattle.scan.proofs.check_state.Goals as goal
@@ -8,32 +8,27 @@ use Rattle.scan.proofs.check_state.Goals as goal
 pub returns-in_err-check_bytes : goal.returns-in_err-check_bytes
 unfolding state_number
 returns-in_err-check_bytes c =
-    let p = err_from_is_err_and c.from_residual.result c.from_residual.ensures.1 in
-    rw (p.1, p.2) (first_stops _ c.in_err-check_bytes.ensures (refused _))
+    rw (passed-on _ c.from_residual.ensures.1) (first_stops _ c.in_err-check_bytes.ensures (refused _))
 
 pub returns-in_err-check_end : goal.returns-in_err-check_end
 unfolding state_number
 returns-in_err-check_end c =
-    let p = err_from_is_err_and c.from_residual-in_err-check_end.result c.from_residual-in_err-check_end.ensures.1 in
-    rw (p.1, p.2, ← c.in_ok-check_bytes.ensures) (first_stops _ c.in_err-check_end.ensures (refused _))
+    rw (passed-on _ c.from_residual-in_err-check_end.ensures.1, ← c.in_ok-check_bytes.ensures) (first_stops _ c.in_err-check_end.ensures (refused _))
 
 pub returns-in_err-check_bytes-2 : goal.returns-in_err-check_bytes-2
 unfolding state_number
 returns-in_err-check_bytes-2 c =
-    let p = err_from_is_err_and c.from_residual-in_err-check_bytes-2.result c.from_residual-in_err-check_bytes-2.ensures.1 in
-    rw (p.1, p.2, ← c.in_ok-check_bytes.ensures, ← c.in_ok-check_end.ensures) (first_stops _ c.in_err-check_bytes-2.ensures (refused _))
+    rw (passed-on _ c.from_residual-in_err-check_bytes-2.ensures.1, ← c.in_ok-check_bytes.ensures, ← c.in_ok-check_end.ensures) (first_stops _ c.in_err-check_bytes-2.ensures (refused _))
 
 pub returns-in_err-check_end-2 : goal.returns-in_err-check_end-2
 unfolding state_number
 returns-in_err-check_end-2 c =
-    let p = err_from_is_err_and c.from_residual-in_err-check_end-2.result c.from_residual-in_err-check_end-2.ensures.1 in
-    rw (p.1, p.2, ← c.in_ok-check_bytes.ensures, ← c.in_ok-check_end.ensures, ← c.in_ok-check_bytes-2.ensures) (first_stops _ c.in_err-check_end-2.ensures (refused _))
+    rw (passed-on _ c.from_residual-in_err-check_end-2.ensures.1, ← c.in_ok-check_bytes.ensures, ← c.in_ok-check_end.ensures, ← c.in_ok-check_bytes-2.ensures) (first_stops _ c.in_err-check_end-2.ensures (refused _))
 
 pub returns-in_err-check_bytes-3 : goal.returns-in_err-check_bytes-3
 unfolding state_number
 returns-in_err-check_bytes-3 c =
-    let p = err_from_is_err_and c.from_residual-in_err-check_bytes-3.result c.from_residual-in_err-check_bytes-3.ensures.1 in
-    rw (p.1, p.2, ← c.in_ok-check_bytes.ensures, ← c.in_ok-check_end.ensures, ← c.in_ok-check_bytes-2.ensures, ← c.in_ok-check_end-2.ensures) (first_stops _ c.in_err-check_bytes-3.ensures (refused _))
+    rw (passed-on _ c.from_residual-in_err-check_bytes-3.ensures.1, ← c.in_ok-check_bytes.ensures, ← c.in_ok-check_end.ensures, ← c.in_ok-check_bytes-2.ensures, ← c.in_ok-check_end-2.ensures) (first_stops _ c.in_err-check_bytes-3.ensures (refused _))
 
 pub state_length-requires : goal.state_length-requires
 state_length-requires c =

@@ -1,6 +1,6 @@
 -- `scan::scan` meets its contract: the fields passed so far rewrite the definition to the next one. Assumes nothing.
 use Rattle.std.proofs.Common.{◌≤◌, sym, ◌∙◌, refl, arith, lt-ltb}
-use Rattle.std.proofs.lemmas.Result.{err_from_is_err_and}
+use Rattle.refusal.proofs.Outcomes.{passed-on}
 use Rattle.cell.specs.Cell.{pages}
 use Rattle.flash.specs.Chip.{no_pages}
 use Rattle.snapshot.specs.Places.{count_number, scan_number}
@@ -14,10 +14,9 @@ returns-then-bytes-lt-FIRST_PAGE c = rw (lt-ltb _ _ c.if-bytes-lt-FIRST_PAGE.tru
 pub returns-in_err-check_pages : goal.returns-in_err-check_pages
 unfolding no_pages
 returns-in_err-check_pages c =
-    let p = err_from_is_err_and c.from_residual.result c.from_residual.ensures.1 in
     let few : c.count_in-count.result ≤ pages = omega arith in
     let n = counted _ _ _ c.if-bytes-lt-FIRST_PAGE.false c.count_in-count.ensures few refl in
-    rw (p.1, p.2) (first_stops _ c.in_err-check_pages.ensures.0 (refused _) ∙ sym n)
+    rw (passed-on _ c.from_residual.ensures.1) (first_stops _ c.in_err-check_pages.ensures.0 (refused _) ∙ sym n)
 
 pub check_state-requires : goal.check_state-requires
 check_state-requires c =
@@ -27,10 +26,9 @@ check_state-requires c =
 pub returns-in_err-check_state : goal.returns-in_err-check_state
 unfolding no_pages
 returns-in_err-check_state c =
-    let p = err_from_is_err_and c.from_residual-in_err-check_state.result c.from_residual-in_err-check_state.ensures.1 in
     let few : c.count_in-count.result ≤ pages = omega arith in
     let n = counted _ _ _ c.if-bytes-lt-FIRST_PAGE.false c.count_in-count.ensures few refl in
-    rw (p.1, p.2) (c.in_err-check_state.ensures ∙ rw c.page_at.ensures (sym (n ∙ first_passes _ c.in_ok-check_pages.ensures.0 refl)))
+    rw (passed-on _ c.from_residual-in_err-check_state.ensures.1) (c.in_err-check_state.ensures ∙ rw c.page_at.ensures (sym (n ∙ first_passes _ c.in_ok-check_pages.ensures.0 refl)))
 
 pub returns : goal.returns
 unfolding no_pages
