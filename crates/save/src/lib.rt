@@ -17,6 +17,7 @@ use coding::state::flag_byte;
 use control::Pending;
 use control::supplies::{mode_number, supply_number};
 use flash::Flash;
+use lent::opening;
 use refusal::Refusal;
 use rows::numbers::Number;
 use rows::put_row;
@@ -190,7 +191,7 @@ pub fn write_snapshot(
     ensures answer { Answers (write_refusal (length out.old) (record { bytes = «record».now; array = array.now; charges = charges.now })) (length (snapshot_of (chip_in (record { bytes = «record».now; array = array.now; charges = charges.now })))) result }
     ensures out { out.new ≡ written_out (told result) (record { bytes = «record».now; array = array.now; charges = charges.now }) out.old }
 {
-    let flash = lent::opening::opened(record, array, charges)?;
+    let flash = opening::opened(record, array, charges)?;
     let indices = flash.indices;
     let r = flash.registers;
     let pending = r.verify_pending;

@@ -1,9 +1,6 @@
 -- `save::write_snapshot` meets its contract: a refusal at each check is the one asked for, and past the checks the snapshot fills
 -- the beginning of the output. Assumes nothing.
-use Prim.Native.Nat.{◌-◌}
-use lib.Seq.{length-take-le}
 use lib.ListN.{length}
-use mathlib.Core.Path.{◌≡◌, sym, ◌∙◌}
 use Rattle.refusal.proofs.Outcomes.{number-some, passed-on}
 use Rattle.lent.specs.Memory.{Memory}
 use Rattle.save.proofs.Told.{put_front, length-written, told-first, told-8, told-none}
@@ -14,5 +11,21 @@ pub returns-in_err-flash-clause-answer : goal.returns-in_err-flash-clause-answer
 returns-in_err-flash-clause-answer c =
     rw (passed-on _ c.from_residual.ensures.1) (told-first _ _ c.in_err-flash.ensures.told (λ z. omega (arith, number-some c.in_err-flash.field-0.0)))
 
+pub returns-then-out-length-clause-answer : goal.returns-then-out-length-clause-answer
+returns-then-out-length-clause-answer c =
+    let x = c.args in
+    let m : Memory = record { bytes = x.«record».now; array = x.array.now; charges = x.charges.now } in
+    let o = c.in_ok-flash.ensures in
+    let n = c.snapshot_length-length.result in
+    let e = length-written m c.in_ok-flash.flash c.opened-count.result n o.fits.array_long o.fits.charges_long (λ k. (c.type_inv.«record» k).fits) o.told.1 c.opened-count.ensures.0 c.snapshot_length-length.ensures in
+    told-8 m (length x.out.now) o.told.0 n e c.if-out-length.true
+
 pub returns : goal.returns
-returns c = ?
+returns c =
+    let x = c.args in
+    let m : Memory = record { bytes = x.«record».now; array = x.array.now; charges = x.charges.now } in
+    let o = c.in_ok-flash.ensures in
+    let n = c.snapshot_length-length.result in
+    let e = length-written m c.in_ok-flash.flash c.opened-count.result n o.fits.array_long o.fits.charges_long (λ k. (c.type_inv.«record» k).fits) o.told.1 c.opened-count.ensures.0 c.snapshot_length-length.ensures in
+    let z = told-none m (length x.out.now) o.told.0 n e c.if-out-length.false in
+    record { answer = (z, e); out = put_front c.fill.new.out x.out.now _ n (rw o.told.1 at c.fill.ensures) e (omega arith) }
