@@ -2,24 +2,19 @@
 #![tactic(auto)]
 
 ghost use Rattle.std.specs.Prelude.{◌≡◌, ◌<◌};
+ghost use Rattle.refusal.specs.Refusal.{told};
 ghost use Rattle.flash.specs.Chip.{answer_limit};
-ghost use Rattle.lent.specs.Asked.{call_of, outcome, Told};
+ghost use Rattle.lent.specs.Asked.{call_of, outcome, value_of, count_of, Told};
 
-use checks::accepts;
-use coding::{read, write};
-use lent::Request;
-use lent::checking::{call_of, call_refusal, sizes_misfit};
+use coding::write;
+use lent::checking::{call_of, call_refusal};
+use lent::opening::opened;
+use lent::{Answer, Request};
 use perform::perform;
+use refusal::Refusal;
 use time::Time;
 
-// A refusal's number, 0 for none; the answer of a read; how many event words were given.
-#[derive(Clone, Copy)]
-pub struct Answer {
-    pub number: u32,
-    pub value: u16,
-    pub count: usize,
-}
-
+// Any call: its answer, or why it is refused.
 pub fn ask(
     record: &mut [u8],
     array: &mut [u8],
@@ -27,38 +22,15 @@ pub fn ask(
     events: &mut [u64],
     request: Request,
     time: Time,
-) -> Answer
-    ensures { Told (outcome request time events.old (record { bytes = «record».old; array = array.old; charges = charges.old })) result.number result.count «record».new array.new charges.new events.new × (result.value ≡ (outcome request time events.old (record { bytes = «record».old; array = array.old; charges = charges.old })).value) × (result.value < answer_limit (call_of request)) }
+) -> Result<Answer, Refusal>
+    ensures { Told (outcome request time events.old (record { bytes = «record».old; array = array.old; charges = charges.old })) (told result) (count_of result) «record».new array.new charges.new events.new × (value_of result ≡ (outcome request time events.old (record { bytes = «record».old; array = array.old; charges = charges.old })).value) × (value_of result < answer_limit (call_of request)) }
 {
-    if sizes_misfit(record.len(), array.len(), charges.len()) {
-        return Answer {
-            number: 2,
-            value: 0,
-            count: 0,
-        };
-    }
-    if !accepts(record) {
-        return Answer {
-            number: 3,
-            value: 0,
-            count: 0,
-        };
-    }
-    let flash = read(record);
-    let number = call_refusal(flash, request, time, events.len());
-    if number != 0 {
-        return Answer {
-            number: number,
-            value: 0,
-            count: 0,
-        };
-    }
+    let flash = opened(record, array, charges)?;
+    call_refusal(flash, request, time, events.len())?;
     let done = perform(flash, array, charges, events, call_of(request), time);
-    let after = done.flash;
-    write(record, after);
-    Answer {
-        number: 0,
+    write(record, done.flash);
+    Ok(Answer {
         value: done.value,
         count: done.count,
-    }
+    })
 }

@@ -1,7 +1,8 @@
 -- Memory that is refused neither by 2 nor by 3 fits: its lengths, its slots, and a pulse and a pending sense that lie inside the array.
 -- Assumes nothing.
 use mathlib.Core.Path.{◌≡◌, refl}
-use mathlib.Core.Bool.{Bool, true, false, not, ◌||◌, true≢false}
+use mathlib.Core.Bool.{Bool, true, false, cond, not, ◌||◌, true≢false}
+use Rattle.std.specs.Prelude.{Result, Ok, Err, IfOk}
 use Prim.Native.Nat.{ℕ, ◌+◌, ◌≤◌}
 use native.Mathlib.Omega.{arith}
 use lib.Dec.{eqb}
@@ -11,12 +12,16 @@ use Rattle.cell.specs.Cell.{array_bytes, array_cells}
 use Rattle.control.specs.declared.PendingSense.{PendingSense}
 use Rattle.std.specs.Prelude.{Option, Some, None}
 use Rattle.settle.specs.Settling.{sense_address}
+use Rattle.refusal.specs.declared.Refusal.{Refusal}
+use Rattle.refusal.specs.Refusal.{Answers}
+use Rattle.flash.specs.declared.Flash.{Flash}
 use Rattle.flash.specs.Chip.{Fit}
 use Rattle.layout.specs.Layout.{record_length, accepted, decoded}
 use Rattle.layout.specs.Whole.{PendingSound}
 use Rattle.layout.proofs.Back.{decoded-index}
 use Rattle.layout.proofs.Accepted.{accepted-sound}
-use Rattle.lent.specs.Memory.{Memory, chip_in, sizes_misfit}
+use Rattle.lent.specs.Memory.{Memory, chip_in, record_misfits, misfits, sizes_misfit}
+use Rattle.lent.specs.Looked.{register_refusal}
 use Rattle.flash.proofs.Inside.{pulse_inside}
 
 pub record Sizes (bytes array charges : ℕ) : Type 0 where
@@ -50,3 +55,17 @@ fitted m s a =
       pulse_inside = pulse_inside (decoded m.bytes).registers sound.page_inside;
       sense_inside = sense_inside (decoded m.bytes).registers.verify_pending sound.pending;
     }
+
+-- with the lengths, the state of a record that is accepted fits
+pub opens : (m : Memory) (r : Result Flash Refusal) → misfits m ≡ false → Answers (register_refusal m.bytes) (decoded m.bytes) r
+    → IfOk r (λ s. Fit (record { flash = s; array = m.array; charges = m.charges }))
+unfolding register_refusal
+opens m (Err _) e a = tt
+opens m (Ok s) e a =
+    let sizes = sizes-fit (length m.bytes) (length m.array) (length m.charges) e in
+    rw a.1 (fitted m sizes (by (accepted m.bytes) (record_misfits m.bytes) refl a.0))
+  where
+    by : (x y : Bool) → accepted m.bytes ≡ x → ◌≡◌ {A = ℕ} (cond y 2 (cond (not x) 3 0)) 0 → accepted m.bytes ≡ true
+    by true y h z = h
+    by false true h z = absurd (omega (arith, z))
+    by false false h z = absurd (omega (arith, z))

@@ -1,4 +1,3 @@
-pub mod Copied
 pub mod Fitted
 pub mod Lines
 pub mod Looks

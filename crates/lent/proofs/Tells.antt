@@ -1,7 +1,6 @@
 -- The outcome of a call, from its checks: the first line that is given makes the number and leaves everything, and with none given what
 -- the call performs is the outcome. Assumes nothing.
 use mathlib.Core.Path.{◌≡◌, refl, ap, sym, ◌∙◌}
-use mathlib.Core.Logic.{◌≢◌}
 use mathlib.Core.Bool.{Bool, true, false, cond, ◌&&◌, true≢false}
 use mathlib.Core.List.{List}
 use Prim.Native.Nat.{ℕ, zero, suc, ◌-◌, ◌^◌, ◌≤◌, ◌<◌}
@@ -10,6 +9,9 @@ use lib.Dec.{leb, ltb, lit<}
 use lib.ListN.{length}
 use borrow.Author.Tests.{leb-false, lt-ltb}
 use Rattle.std.specs.Prelude.{Option}
+use Rattle.refusal.specs.declared.Refusal.{Refusal}
+use Rattle.refusal.specs.Refusal.{number}
+use Rattle.refusal.proofs.Outcomes.{number-some}
 use Rattle.time.specs.declared.Time.{Time}
 use Rattle.time.specs.Raw.{BeforeLastSecond}
 use Rattle.registers.specs.declared.Call.{Call}
@@ -19,12 +21,14 @@ use Rattle.registers.specs.Calls.{settles}
 use Rattle.flash.specs.declared.Flash.{Flash}
 use Rattle.settle.specs.Settling.{range_bytes}
 use Rattle.flash.specs.Chip.{placed, answer_limit, Performed}
-use Rattle.layout.specs.Layout.{accepted, encoded, decoded}
+use Rattle.layout.specs.Layout.{encoded, decoded}
 use Rattle.lent.specs.declared.Request.{Request}
 use Rattle.lent.specs.declared.Request.TheVariants.{WriteRegister, Write8, Read8, Read16, Protect, Reset, PowerOff, Environment}
-use Rattle.lent.specs.Memory.{Memory, chip_in, misfits, last_second, too_early, too_few_words}
+use Rattle.lent.proofs.Lines.{given-first, given-after}
+use Rattle.lent.specs.Looked.{memory_checks, memory_refusal}
+use Rattle.lent.specs.Memory.{Memory, chip_in, last_second, too_early, too_few_words}
 use Rattle.registers.specs.declared.Pulse.{Pulse}
-use Rattle.lent.specs.Asked.{call_of, misplaced, call_refusal, refusal, outcome, outcome_by, Told}
+use Rattle.lent.specs.Asked.{call_of, misplaced, call_checks, call_refusal, refusal, outcome, outcome_by, Told}
 
 -- no answer is a byte
 limit-above : (c : Call) → 0 < answer_limit c
@@ -75,45 +79,48 @@ passes q now words s e =
     by false true c d x y z h = absurd (omega (arith, h))
     by true b c d x y z h = absurd (omega (arith, h))
 
+-- what a call tells of its outcome and its value, and that no answer is past the call's limit
+abbrev Tells : Request → Time → List ℕ → Memory → ℕ → ℕ → ℕ → Memory → List ℕ → Type 0
+Tells q now lent m number value count left events =
+    let o = outcome q now lent m in
+    Told o number count left.bytes left.array left.charges events × (value ≡ o.value) × (value < answer_limit (call_of q))
+
 module _ (q : Request) (now : Time) (lent : List ℕ) (m : Memory) where
-  -- a refusal
-  refused : (n : ℕ) → refusal q now (length lent) m ≡ suc n → Told (outcome q now lent m) (suc n) 0 m.bytes m.array m.charges lent × (0 ≡ (outcome q now lent m).value) × (0 < answer_limit (call_of q))
+  refused : (n : ℕ) → refusal q now (length lent) m ≡ n → 1 ≤ n → Tells q now lent m n 0 0 m lent
   unfolding outcome outcome_by
-  refused n e =
+  refused zero e h = absurd (omega arith)
+  refused (suc n) e h =
       (record { number_is = rw e; count_is = rw e; record_is = rw e; array_is = rw e; charges_are = rw e; events_are = rw e }, rw e, limit-above (call_of q))
 
-  pub told-2 : misfits m ≡ true → Told (outcome q now lent m) 2 0 m.bytes m.array m.charges lent × (0 ≡ (outcome q now lent m).value) × (0 < answer_limit (call_of q))
-  unfolding refusal
-  told-2 e = refused 1 (rw e)
+  -- by the checks of memory
+  pub told-first : (r : Refusal) → number r ≡ memory_refusal m → Tells q now lent m (number r) 0 0 m lent
+  unfolding refusal memory_refusal
+  told-first r e =
+      refused (number r) (sym (given-first (memory_checks m) (call_checks q now (length lent) (decoded m.bytes)) _ e (λ z. omega (arith, number-some r)))) (number-some r)
 
-  pub told-3 : misfits m ≡ false → accepted m.bytes ≡ false → Told (outcome q now lent m) 3 0 m.bytes m.array m.charges lent × (0 ≡ (outcome q now lent m).value) × (0 < answer_limit (call_of q))
-  unfolding refusal
-  told-3 e f = refused 2 (rw (e, f))
-
-  module _ (e : misfits m ≡ false) (f : accepted m.bytes ≡ true) where
+  module _ (z : memory_refusal m ≡ 0) where
     later : refusal q now (length lent) m ≡ call_refusal q now (length lent) (decoded m.bytes)
-    unfolding refusal call_refusal
-    later = rw (e, f)
+    unfolding refusal memory_refusal call_refusal
+    later = given-after (memory_checks m) (call_checks q now (length lent) (decoded m.bytes)) (omega arith, (omega arith, tt)) z
 
-    pub told-later : (n : ℕ) → n ≡ call_refusal q now (length lent) (decoded m.bytes) → n ≢ 0
-        → Told (outcome q now lent m) n 0 m.bytes m.array m.charges lent × (0 ≡ (outcome q now lent m).value) × (0 < answer_limit (call_of q))
-    told-later zero g h = absurd (h refl)
-    told-later (suc n) g h = refused n (later ∙ sym g)
+    -- by those of the call
+    pub told-later : (r : Refusal) → number r ≡ call_refusal q now (length lent) (decoded m.bytes) → Tells q now lent m (number r) 0 0 m lent
+    told-later r g = refused (number r) (later ∙ sym g) (number-some r)
 
-    pub told-done : call_refusal q now (length lent) (decoded m.bytes) ≡ 0 → {flash : Flash} {bytes array charges events : List ℕ} {value count : ℕ}
+    pub told-done : 0 ≡ call_refusal q now (length lent) (decoded m.bytes) → {flash : Flash} {bytes array charges events : List ℕ} {value count : ℕ}
         → Performed (call_of q) now (chip_in m) lent flash array charges events value count → bytes ≡ encoded flash
-        → Told (outcome q now lent m) 0 count bytes array charges events × (value ≡ (outcome q now lent m).value) × (value < answer_limit (call_of q))
+        → Tells q now lent m 0 value count (record { bytes = bytes; array = array; charges = charges }) events
     unfolding outcome outcome_by
     told-done g p b =
-        let z = later ∙ g in (
+        let e = later ∙ sym g in (
           record {
-            number_is = rw z;
-            count_is = rw z p.count_is;
-            record_is = rw z (b ∙ ap encoded p.flash_is);
-            array_is = rw z p.array_is;
-            charges_are = rw z p.charges_is;
-            events_are = rw z p.events_are;
+            number_is = rw e;
+            count_is = rw e p.count_is;
+            record_is = rw e (b ∙ ap encoded p.flash_is);
+            array_is = rw e p.array_is;
+            charges_are = rw e p.charges_is;
+            events_are = rw e p.events_are;
           },
-          rw z p.value_is,
+          rw e p.value_is,
           p.value_small,
         )

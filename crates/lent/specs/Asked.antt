@@ -1,7 +1,8 @@
 -- The ledger's calls over lent memory: their checks, and their whole outcome. Document 01, "Order of checking".
 -- Assumes nothing.
-use Rattle.std.specs.Prelude.{ℕ, zero, suc, ◌≡◌, Bool, false, ◌&&◌, List, [], ◌∷◌, length}
+use Rattle.std.specs.Prelude.{ℕ, zero, suc, ◌≡◌, Bool, false, ◌&&◌, List, [], ◌∷◌, length, Result, Ok, Err}
 use Rattle.std.proofs.lemmas.List.Edits.{sets}
+use Rattle.refusal.specs.declared.Refusal.{Refusal}
 use Rattle.time.specs.declared.Time.{Time}
 use Rattle.registers.specs.declared.Call.{Call}
 use Rattle.registers.specs.declared.Call.TheVariants as call
@@ -10,6 +11,7 @@ use Rattle.registers.specs.Calls.{settles}
 use Rattle.flash.specs.declared.Flash.{Flash}
 use Rattle.flash.specs.Chip.{step, answer}
 use Rattle.layout.specs.Layout.{mode_of, decoded, refused3}
+use Rattle.lent.specs.declared.Answer.{Answer}
 use Rattle.lent.specs.declared.Request.{Request}
 use Rattle.lent.specs.declared.Request.TheVariants.{WriteRegister, Write8, Read8, Read16, Protect, Reset, PowerOff, Environment}
 use Rattle.lent.specs.Memory.{Memory, chip_in, memory_of, Check, check, first_given, misfits, past_end, mode_over, last_second, too_early, too_few_words}
@@ -77,6 +79,15 @@ outcome_by (suc n) q now lent m = record { number = suc n; value = 0; memory = m
 
 unfoldable pub outcome : Request → Time → List ℕ → Memory → Outcome
 outcome q now lent m = outcome_by (refusal q now (length lent) m) q now lent m
+
+-- the value and the count of a call's answer: 0 where it is refused
+abbrev pub value_of : Result Answer Refusal → ℕ
+value_of (Ok answer) = answer.value
+value_of (Err r) = 0
+
+abbrev pub count_of : Result Answer Refusal → ℕ
+count_of (Ok answer) = answer.count
+count_of (Err r) = 0
 
 -- what of a call's outcome a function gives back and leaves in lent memory
 pub record Told (o : Outcome) (number count : ℕ) (bytes array charges events : List ℕ) : Type 0 where

@@ -9,7 +9,7 @@ use Rattle.registers.specs.Pulses.{normal}
 use Rattle.flash.specs.Chip.{fresh_flash}
 use Rattle.flash.specs.Looking.{charge_at, peek_at, blank_at, image_at}
 use Rattle.layout.specs.Layout.{decoded, encoded, flag_byte, refused3}
-use Rattle.lent.specs.Memory.{Memory, chip_in, Check, check, first_given, record_misfits, sizes_misfit, past_end, bit_over, last_second, too_early}
+use Rattle.lent.specs.Memory.{Memory, chip_in, Check, check, first_given, misfits, record_misfits, sizes_misfit, past_end, bit_over, last_second, too_early}
 
 -- the checks of a look at a record alone, and of one at a time; at memory, an address and a time
 abbrev pub record_checks : List ℕ → List Check
@@ -21,6 +21,13 @@ time_checks t bytes = check 5 (last_second t) ∷ check 6 (too_early t (decoded 
 abbrev pub sized_checks : Bool → Time → List ℕ → ℕ → ℕ → List Check
 sized_checks misplaced t bytes array charges =
     check 2 (sizes_misfit (length bytes) array charges) ∷ check 3 (refused3 bytes) ∷ check 4 misplaced ∷ time_checks t bytes
+
+-- The checks that every call and look at memory begins with.
+abbrev pub memory_checks : Memory → List Check
+memory_checks m = check 2 (misfits m) ∷ check 3 (refused3 m.bytes) ∷ []
+
+unfoldable pub memory_refusal : Memory → ℕ
+memory_refusal m = first_given (memory_checks m)
 
 -- what a function shows of a look: the refusal's number, and the answer where it is 0
 pub record Shown (refusal answer number value : ℕ) : Type 0 where

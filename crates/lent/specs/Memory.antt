@@ -66,6 +66,9 @@ last_second t = leb (2 ^ 64 - 1) t.0
 abbrev pub too_early : Time → Flash → Bool
 too_early t s = ltb (raw t) (raw s.pulse_since)
 
+unfoldable pub time_refusal : Time → Flash → ℕ
+time_refusal t s = first_given (check 5 (last_second t) ∷ check 6 (too_early t s) ∷ [])
+
 -- 7: pulse open with range of k > 0 bytes and fewer than k+1 words
 abbrev pub too_few_words : Option Pulse → ℕ → Bool
 too_few_words pulse words = ltb 0 (range_bytes pulse) && leb words (range_bytes pulse)

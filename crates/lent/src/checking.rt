@@ -1,6 +1,7 @@
 // The lines of document 01's table of refusals, one test each.
 ghost use Rattle.std.specs.Prelude.{◌≡◌};
-ghost use Rattle.lent.specs.Memory.{sizes_misfit, past_end, last_second, too_few_words};
+ghost use Rattle.refusal.specs.Refusal.{told};
+ghost use Rattle.lent.specs.Memory.{sizes_misfit, past_end, last_second, time_refusal, too_few_words};
 ghost use Rattle.lent.specs.Asked.{call_of, misplaced, call_refusal};
 
 use crate::Request;
@@ -9,6 +10,7 @@ use cell::{CELLS, FLASH_SIZE, PAGE};
 use coding::state::mode_of;
 use flash::Flash;
 use layout::RECORD_LEN;
+use refusal::Refusal;
 use registers::{Call, Pulse};
 use time::Time;
 
@@ -49,14 +51,10 @@ fn misplaced(request: Request) -> bool
     ensures { result ≡ misplaced request }
 {
     match request {
-        Request::WriteRegister(_, _) => false,
-        Request::Write8(a, _) => past_end(a),
-        Request::Read8(a) => past_end(a),
+        Request::Write8(a, _) | Request::Read8(a) => past_end(a),
         Request::Read16(a) => FLASH_SIZE <= a as usize + 1,
-        Request::Protect => false,
-        Request::Reset => false,
-        Request::PowerOff => false,
         Request::Environment(mode, _, _) => 5 < mode,
+        _ => false,
     }
 }
 
@@ -78,23 +76,32 @@ fn too_few_words(pulse: Option<Pulse>, words: usize) -> bool
     }
 }
 
-// The refusal of a call on a state that was read, by the lines from 4 on.
-pub fn call_refusal(flash: Flash, request: Request, time: Time, words: usize) -> u32
-    ensures { result ≡ call_refusal request time words flash }
+// Whether a time is one at which a state can be called or looked at: not in the last second, nor before the last settling.
+#[tactic(auto, unfolding(crate::specs::Memory::time_refusal))]
+pub fn in_time(flash: &Flash, time: Time) -> Result<(), Refusal>
+    ensures { told result ≡ time_refusal time flash.now }
 {
-    let registers = flash.registers;
-    let since = flash.pulse_since;
-    if misplaced(request) {
-        return 4;
-    }
     if last_second(time) {
-        return 5;
+        return Err(Refusal::LastSecond);
     }
-    if time.earlier(since) {
-        return 6;
+    if time.earlier(flash.pulse_since) {
+        return Err(Refusal::TooEarly);
     }
+    Ok(())
+}
+
+// Whether a call on a state that was read is refused, by the lines from 4 on.
+#[tactic(auto, unfolding(crate::specs::Memory::time_refusal, crate::specs::Asked::call_refusal))]
+pub fn call_refusal(flash: Flash, request: Request, time: Time, words: usize) -> Result<(), Refusal>
+    ensures { told result ≡ call_refusal request time words flash }
+{
+    if misplaced(request) {
+        return Err(Refusal::Place);
+    }
+    in_time(&flash, time)?;
+    let registers = flash.registers;
     if settles(registers, call_of(request), time) & too_few_words(registers.pulse(), words) {
-        return 7;
+        return Err(Refusal::Events);
     }
-    0
+    Ok(())
 }

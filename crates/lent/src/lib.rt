@@ -4,9 +4,10 @@
 
 pub mod checking;
 pub mod making;
+pub mod opening;
 
 // The calls of the ledger as a host asks for them, with their arguments but the time: a mode is a number here, and may be none.
-#[derive(Clone, Copy)]
+#[derive(Clone, Copy, Debug, PartialEq, Eq)]
 pub enum Request {
     WriteRegister(u16, u8),
     Write8(u16, u8),
@@ -16,4 +17,11 @@ pub enum Request {
     Reset,
     PowerOff,
     Environment(u8, bool, bool),
+}
+
+// What a call that is not refused answers: the value that a read gives, and how many event words were given.
+#[derive(Clone, Copy, Debug, PartialEq, Eq)]
+pub struct Answer {
+    pub value: u16,
+    pub count: usize,
 }

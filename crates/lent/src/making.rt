@@ -1,5 +1,6 @@
 // A new array from firmware.
 ghost use Rattle.std.specs.Prelude.{◌≡◌, length};
+ghost use Rattle.refusal.specs.Refusal.{told};
 ghost use Rattle.flash.specs.Chip.{fresh_flash};
 ghost use Rattle.lent.specs.Looked.{new_refusal, new_record, new_array};
 
@@ -7,6 +8,7 @@ use crate::checking::sizes_misfit;
 use cell::{FLASH_SIZE, PAGES};
 use coding::write;
 use flash::Flash;
+use refusal::Refusal;
 use registers::Registers;
 use time::Time;
 
@@ -26,24 +28,26 @@ pub fn copy(from: &[u8], to: &mut [u8])
     requires { length from.now ≡ length to.old }
     ensures { to.new ≡ from.now }
 {
-    let mut i: usize = 0;
-    while i < from.len() {
-        to[i] = from[i];
-        i += 1;
-    }
+    to.copy_from_slice(from);
 }
 
-// A new array: record and array are written, the charge store keeps its numbers. The answer is the refusal's number.
-pub fn make(firmware: &[u8], record: &mut [u8], array: &mut [u8], charges: usize) -> u32
-    ensures { (result ≡ new_refusal firmware.now (length «record».old) (length array.old) charges) × («record».new ≡ new_record result «record».old) × (array.new ≡ new_array result firmware.now array.old) }
+// A new array: record and array are written, the charge store keeps its numbers.
+#[tactic(auto, unfolding(crate::specs::Looked::new_refusal))]
+pub fn make(
+    firmware: &[u8],
+    record: &mut [u8],
+    array: &mut [u8],
+    charges: usize,
+) -> Result<(), Refusal>
+    ensures { (told result ≡ new_refusal firmware.now (length «record».old) (length array.old) charges) × («record».new ≡ new_record (told result) «record».old) × (array.new ≡ new_array (told result) firmware.now array.old) }
 {
     if firmware.len() != FLASH_SIZE {
-        return 1;
+        return Err(Refusal::Firmware);
     }
     if sizes_misfit(record.len(), array.len(), charges) {
-        return 2;
+        return Err(Refusal::Memory);
     }
     write(record, fresh());
     copy(firmware, array);
-    0
+    Ok(())
 }

@@ -2,6 +2,7 @@
 #![tactic(auto)]
 
 ghost use Rattle.std.specs.Prelude.{◌≡◌};
+ghost use Rattle.std.specs.Result.{result_unwrap_or};
 ghost use Rattle.refusal.specs.Refusal.{number, told};
 
 #[derive(Clone, Copy, Debug, PartialEq, Eq)]
@@ -58,4 +59,12 @@ pub fn told<T: Drop>(outcome: Result<T, Refusal>) -> u32
         Ok(_) => 0,
         Err(refusal) => u32::from(refusal),
     }
+}
+
+// The same, with the answer put in a place, which keeps what stands there where there is none.
+pub fn told_into<T: Copy>(outcome: Result<T, Refusal>, place: &mut T) -> u32
+    ensures { (result ≡ told outcome) × (place.new ≡ result_unwrap_or outcome place.old) }
+{
+    *place = outcome.unwrap_or(*place);
+    told(outcome)
 }

@@ -1,38 +1,24 @@
--- `ask::ask` meets its contract: a refusal at each check is the outcome's, and past the checks the call is performed on memory
+-- `ask::ask` meets its contract: a refusal by memory or by the call is the outcome's, and past the checks the call is performed on memory
 -- that fits. Assumes nothing.
-use lib.ListN.{length}
-use Rattle.lent.proofs.Tells.{passes, told-2, told-3, told-later, told-done}
-use Rattle.lent.proofs.Fitted.{sizes-fit, fitted}
-use mathlib.Core.Path.{sym, ◌∙◌}
+use Rattle.refusal.proofs.Outcomes.{passed-on}
+use Rattle.lent.proofs.Tells.{passes, told-first, told-later, told-done}
+use mathlib.Core.Path.{sym}
 use Rattle.ask.proofs.ask.Goals as goal
 
-pub returns-then-sizes_misfit : goal.returns-then-sizes_misfit
-returns-then-sizes_misfit c = told-2 _ _ _ _ (sym c.sizes_misfit.ensures ∙ c.if-sizes_misfit.true)
+pub returns-in_err-flash : goal.returns-in_err-flash
+returns-in_err-flash c = rw (passed-on _ c.from_residual.ensures.1) (told-first _ _ _ _ _ c.in_err-flash.ensures.told)
 
-pub accepts-requires : goal.accepts-requires
-accepts-requires c =
-    (let a = c.args in sizes-fit (length a.«record».now) (length a.array.now) (length a.charges.now) (sym c.sizes_misfit.ensures ∙ c.if-sizes_misfit.false)).record_long
-
-pub returns-then-not-accepts : goal.returns-then-not-accepts
-returns-then-not-accepts c =
-    told-3 _ _ _ _ (sym c.sizes_misfit.ensures ∙ c.if-sizes_misfit.false) (sym c.accepts.ensures ∙ c.if-not-accepts.true)
-
-pub read-flash-requires : goal.read-flash-requires
-read-flash-requires c =
-    (let a = c.args in sizes-fit (length a.«record».now) (length a.array.now) (length a.charges.now) (sym c.sizes_misfit.ensures ∙ c.if-sizes_misfit.false)).record_long
-
-pub returns-then-number-ne0 : goal.returns-then-number-ne0
-returns-then-number-ne0 c =
-    told-later _ _ _ _ (sym c.sizes_misfit.ensures ∙ c.if-sizes_misfit.false) (sym c.accepts.ensures ∙ c.if-not-accepts.false) _ (rw c.read-flash.ensures at c.call_refusal-number.ensures) c.if-number-ne0.true
+pub returns-in_err-call_refusal : goal.returns-in_err-call_refusal
+returns-in_err-call_refusal c =
+    let o = c.in_ok-flash.ensures.told in
+    rw (passed-on _ c.from_residual-in_err-call_refusal.ensures.1) (told-later _ _ _ _ o.0 _ (rw o.1 at c.in_err-call_refusal.ensures))
 
 pub perform-done-requires : goal.perform-done-requires
 perform-done-requires c =
-    let f = fitted _ (sizes-fit _ _ _ (sym c.sizes_misfit.ensures ∙ c.if-sizes_misfit.false)) (sym c.accepts.ensures ∙ c.if-not-accepts.false) in let p = passes _ _ _ _ (sym c.call_refusal-number.ensures ∙ c.if-number-ne0.false) in (rw c.read-flash.ensures f, rw c.call_of.ensures p.placed_is, p.in_time, rw c.call_of.ensures p.enough)
-
-pub write-requires : goal.write-requires
-write-requires c =
-    (let a = c.args in sizes-fit (length a.«record».now) (length a.array.now) (length a.charges.now) (sym c.sizes_misfit.ensures ∙ c.if-sizes_misfit.false)).record_long
+    let p = passes _ _ _ _ (sym c.in_ok-call_refusal.ensures) in
+    (c.in_ok-flash.ensures.fits, rw c.call_of.ensures p.placed_is, p.in_time, rw c.call_of.ensures p.enough)
 
 pub returns : goal.returns
 returns c =
-    told-done _ _ _ _ (sym c.sizes_misfit.ensures ∙ c.if-sizes_misfit.false) (sym c.accepts.ensures ∙ c.if-not-accepts.false) (rw c.read-flash.ensures at (sym c.call_refusal-number.ensures ∙ c.if-number-ne0.false)) (rw (c.read-flash.ensures, c.call_of.ensures) at c.perform-done.ensures) c.write.ensures
+    let o = c.in_ok-flash.ensures.told in
+    told-done _ _ _ _ o.0 (rw o.1 at c.in_ok-call_refusal.ensures) (rw (o.1, c.call_of.ensures) at c.perform-done.ensures) c.write.ensures
