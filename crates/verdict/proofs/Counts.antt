@@ -40,10 +40,6 @@ legible-more image p (suc n) m =
     let r = legible-more image (suc p) n m in
     rw (e, d, r) (omega arith)
 
-pub legible-turn : (image : List ℕ) (p n : ℕ) → legible_in image p (n + 1) ≡ legible_in image p n + cond (legible image (p + n)) 1 0
-unfolding legible_in
-legible-turn image p n = legible-more image p n 1 ∙ rw add-zero
-
 -- ---- as lists
 
 -- n bytes from address a on

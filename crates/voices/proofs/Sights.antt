@@ -7,6 +7,7 @@ use mathlib.Core.List.{List}
 use Prim.Native.Nat.{ℕ}
 use borrow.Author.Tests.{eq-eqb, ne_eqb}
 use lib.Dec.{eqb}
+use Rattle.std.specs.Prelude.{Option, None, Some}
 use Rattle.time.specs.declared.Time.{Time}
 use Rattle.layout.specs.Layout.{flag_byte}
 use Rattle.lent.specs.Memory.{Memory}
@@ -17,7 +18,7 @@ use Rattle.text.specs.Puts.{Puts}
 use Rattle.text.proofs.Joined.{puts_none}
 use Rattle.answers.specs.Answers.{byte_said, cell_said}
 use Rattle.course.specs.declared.Complaint.{Complaint}
-use Rattle.course.specs.declared.Complaint.TheVariants.{Nothing, Unseen}
+use Rattle.course.specs.declared.Complaint.TheVariants.{Unseen}
 use Rattle.course.specs.declared.Course.{Course}
 use Rattle.course.specs.declared.Manner.{Manner}
 use Rattle.course.specs.Course.{after_left_out}
@@ -58,15 +59,15 @@ module _ (line a : ℕ) (t : Time) (m : Memory) where
 
 module _ (w : Manner) (line : ℕ) (l : Looking) (t : Time) (m : Memory) (before after : Course) {number end : ℕ} {out left : List ℕ}
     (s : Looks line l t m number out left end) where
-  abbrev Left : Complaint → Type 0
+  abbrev Left : Option Complaint → Type 0
   Left complaint = (events : List ℕ) → Leaves (looked w line l t (looked_refusal l t m) (desk before m events)) after m events complaint out left end
 
-  pub left-seen : number ≡ 0 → after ≡ before → Left Nothing
+  pub left-seen : number ≡ 0 → after ≡ before → Left None
   left-seen z same events =
       let none = eq-eqb number 0 z in
       rw (← s.number_is, none) (record { course_is = same; memory_is = refl; events_are = refl; said_is = rw none at s.said_is; complaints_are = refl })
 
-  pub left-refused : number ≢ 0 → after ≡ after_left_out w.go_on before → Left (Unseen line number)
+  pub left-refused : number ≢ 0 → after ≡ after_left_out w.go_on before → Left (Some (Unseen line number))
   left-refused n more events =
       let some = ne_eqb number 0 n in
       rw (← s.number_is, some) (record { course_is = more; memory_is = refl; events_are = refl; said_is = rw some at s.said_is; complaints_are = refl })
