@@ -4,6 +4,8 @@
 use mathlib.Core.Path.{◌≡◌, refl, sym, ap, ◌∙◌}
 use mathlib.Core.Bool.{Bool, true, false, cond, ◌&&◌}
 use mathlib.Core.List.{List}
+use Rattle.std.specs.Prelude.{Option, Some, None, Result, Ok, Err}
+use Rattle.reason.specs.declared.Reason.{Reason}
 use Prim.Native.Nat.{ℕ, ◌+◌, ◌-◌, ◌*◌, ◌/◌, ◌%◌, ◌^◌, ◌≤◌, ◌<◌}
 use native.Mathlib.Nat.{mul-lt-mul_of_pos_right, one-le-pow}
 use native.Mathlib.Omega.{arith}
@@ -15,13 +17,10 @@ use Rattle.time.specs.Raw.{micros}
 use Rattle.time.specs.declared.Duration.{Duration}
 use Rattle.time.proofs.Laws.{is-micros}
 use Rattle.digits.specs.Digits.{number_in}
-use Rattle.digits.specs.declared.Number.{Number}
-use Rattle.digits.specs.declared.Number.TheVariants as number
+use Rattle.digits.specs.declared.NoNumber.{NoNumber}
+use Rattle.digits.specs.declared.NoNumber.TheVariants as number
 use Rattle.digits.proofs.Laws.{number-below}
-use Rattle.moments.specs.declared.Part.TheVariants as part
-use Rattle.moments.specs.declared.Length.TheVariants as long
 use Rattle.moments.specs.Moments.{judged, part_of, in_micros, exact_of}
-use Rattle.moments.specs.declared.Exact.TheVariants.{Micros, Raw}
 
 -- the fraction of microseconds below a second
 below-second : (n : ℕ) → n < 1000000 → (micros n).1 ≡ n * 18446744073709 + n * 551616 / 1000000
@@ -45,26 +44,26 @@ scaled n count few h =
 pub scaled-by : (n count w : ℕ) → count ≤ 6 → n < 10 ^ count → w ≡ 10 ^ (6 - count) → n * w < 1000000
 scaled-by n count w few h e = rw e (scaled n count few h)
 
-pub is-in-micros : (s n count w : ℕ) (d : Duration) → count ≤ 6 → n < 10 ^ count → w ≡ 10 ^ (6 - count) → d ≡ micros (n * w) → long.Is (record { 0 = s; 1 = d.1 }) ≡ in_micros s count (part.Is n)
-is-in-micros s n count w d few h e f = rw (f, e) (ap long.Is (micros-split s (n * 10 ^ (6 - count)) (scaled n count few h)))
+pub is-in-micros : (s n count w : ℕ) (d : Duration) → count ≤ 6 → n < 10 ^ count → w ≡ 10 ^ (6 - count) → d ≡ micros (n * w) → ◌≡◌ {A = Result Duration Reason} (Ok (record { 0 = s; 1 = d.1 })) (in_micros s count (Ok n))
+is-in-micros s n count w d few h e f = rw (f, e) (ap Ok (micros-split s (n * 10 ^ (6 - count)) (scaled n count few h)))
 
 -- a part of so many digits
-pub part-below : (n : ℕ) (bs : List ℕ) → part_of bs ≡ part.Is n → n < 10 ^ length bs
+pub part-below : (n : ℕ) (bs : List ℕ) → part_of bs ≡ Ok n → n < 10 ^ length bs
 part-below n bs = by (number_in 10 bs) refl
   where
-    by : (r : Number) → number_in 10 bs ≡ r → judged r ≡ part.Is n → n < 10 ^ length bs
-    by (number.Is m) e j = let same : m ≡ n = cc in number-below 10 n bs (e ∙ ap number.Is same)
-    by number.TooLarge e j = let z : ◌≡◌ {A = ℕ} 0 1 = cc in omega arith
-    by number.Not e j = let z : ◌≡◌ {A = ℕ} 0 1 = cc in omega arith
+    by : (r : Result ℕ NoNumber) → number_in 10 bs ≡ r → judged r ≡ Ok n → n < 10 ^ length bs
+    by (Ok m) e j = let same : m ≡ n = cc in number-below 10 n bs (e ∙ ap Ok same)
+    by (Err number.TooLarge) e j = let z : ◌≡◌ {A = ℕ} 0 1 = cc in omega arith
+    by (Err number.NotDigits) e j = let z : ◌≡◌ {A = ℕ} 0 1 = cc in omega arith
 
 -- the test of the code is that of the definition
-pub is-exact-of : (fraction : ℕ) (d : Duration) (p : Bool) → d ≡ micros (fraction / 18446744073709) → (ltb (fraction / 18446744073709) 1000000 && eqb d.1 fraction) ≡ p → cond p (Micros (fraction / 18446744073709)) Raw ≡ exact_of fraction
+pub is-exact-of : (fraction : ℕ) (d : Duration) (p : Bool) → d ≡ micros (fraction / 18446744073709) → (ltb (fraction / 18446744073709) 1000000 && eqb d.1 fraction) ≡ p → cond p (Some (fraction / 18446744073709)) None ≡ exact_of fraction
 unfolding exact_of
 is-exact-of fraction d p e t = rw (sym e, t)
 
 -- a fraction is told as n microseconds if and only if it is their fraction
 module _ (fraction n : ℕ) where
-  pub exact-sound : exact_of fraction ≡ Micros n → (n < 1000000) × ((micros n).1 ≡ fraction)
+  pub exact-sound : exact_of fraction ≡ Some n → (n < 1000000) × ((micros n).1 ≡ fraction)
   unfolding exact_of
   exact-sound e = by (ltb (fraction / 18446744073709) 1000000) (eqb (micros (fraction / 18446744073709)).1 fraction) refl refl e
     where
@@ -72,13 +71,13 @@ module _ (fraction n : ℕ) where
           (p q : Bool)
           → ltb (fraction / 18446744073709) 1000000 ≡ p
           → eqb (micros (fraction / 18446744073709)).1 fraction ≡ q
-          → cond (p && q) (Micros (fraction / 18446744073709)) Raw ≡ Micros n
+          → cond (p && q) (Some (fraction / 18446744073709)) None ≡ Some n
           → (n < 1000000) × ((micros n).1 ≡ fraction)
       by true true h k e = let same : fraction / 18446744073709 ≡ n = cc in (rw same at (ltb-true (fraction / 18446744073709) 1000000 h), rw same at (eqb-true (micros (fraction / 18446744073709)).1 fraction k))
       by true false h k e = let z : ◌≡◌ {A = ℕ} 0 1 = cc in absurd (omega arith)
       by false q h k e = let z : ◌≡◌ {A = ℕ} 0 1 = cc in absurd (omega arith)
 
-  pub exact-complete : n < 1000000 → (micros n).1 ≡ fraction → exact_of fraction ≡ Micros n
+  pub exact-complete : n < 1000000 → (micros n).1 ≡ fraction → exact_of fraction ≡ Some n
   unfolding exact_of
   exact-complete h e =
       let quotient : fraction / 18446744073709 ≡ n = omega (arith, below-second n h) in

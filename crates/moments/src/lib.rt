@@ -1,87 +1,42 @@
 // A time as a history writes it.
 #![tactic(auto)]
 
-ghost use Rattle.std.specs.Prelude.{◌≡◌, ℕ, ◌-◌, ◌^◌, ◌≤◌, ◌<◌, length};
-ghost use Rattle.byte_search.specs.Search.{slice};
-ghost use Rattle.moments.specs.Moments.{judged, part_of, seconds, exactly, in_micros, with_decimals, length_of, is_relative, in_range, at_length, after_length, moment_of, exact_of};
+ghost use Rattle.std.specs.Prelude.{◌≡◌, ◌-◌, ◌^◌, ◌≤◌, Ok};
+ghost use Rattle.moments.specs.Moments.{part_of, seconds, exactly, with_decimals, length_of, after_length, moment_of, exact_of};
 
-use digits::Number;
+use byte_search::find;
+use digits::{NoNumber, decimal};
 use reason::Reason;
 use time::{Duration, Time};
-
-// What a line says of its time.
-#[derive(Clone, Copy)]
-pub enum Moment {
-    At(Time),
-    Wrong(Reason),
-}
-
-// The time of the line before, if there is one.
-#[derive(Clone, Copy)]
-pub enum Before {
-    Nothing,
-    At(Time),
-}
-
-#[derive(Clone, Copy)]
-pub enum Length {
-    Is(Duration),
-    Wrong(Reason),
-}
-
-#[derive(Clone, Copy)]
-pub enum Part {
-    Is(u64),
-    Wrong(Reason),
-}
-
-// A fraction of a second as microseconds, where it is that of some, or raw.
-#[derive(Clone, Copy)]
-pub enum Exact {
-    Micros(u64),
-    Raw,
-}
-
-const COLON: u8 = 58;
-
-const POINT: u8 = 46;
-
-const PLUS: u8 = 43;
 
 const MICROS: u64 = 1_000_000;
 
 // One microsecond in raw units.
 pub const MICROSECOND: u64 = 18446744073709;
 
-fn judged(n: Number) -> Part
-    ensures { result ≡ judged n }
+// A part of a word, which is a decimal number.
+fn part_in(word: &[u8]) -> Result<u64, Reason>
+    ensures { result ≡ part_of word.now }
 {
-    match n {
-        Number::Is(v) => Part::Is(v),
-        Number::TooLarge => Part::Wrong(Reason::TooLarge),
-        Number::Not => Part::Wrong(Reason::NoTime),
+    match decimal(word) {
+        Ok(n) => Ok(n),
+        Err(NoNumber::TooLarge) => Err(Reason::TooLarge),
+        Err(NoNumber::NotDigits) => Err(Reason::NoTime),
     }
 }
 
-fn seconds(s: Part) -> Length
-    ensures { result ≡ seconds s }
+// Whole seconds.
+fn seconds_in(word: &[u8]) -> Result<Duration, Reason>
+    ensures { result ≡ seconds (part_of word.now) }
 {
-    match s {
-        Part::Is(v) => Length::Is(Duration(v, 0)),
-        Part::Wrong(why) => Length::Wrong(why),
-    }
+    Ok(Duration(part_in(word)?, 0))
 }
 
-fn exactly(s: Part, f: Part) -> Length
-    ensures { result ≡ exactly s f }
+// Seconds and a fraction in raw units.
+fn exactly_in(seconds: &[u8], fraction: &[u8]) -> Result<Duration, Reason>
+    ensures { result ≡ exactly (part_of seconds.now) (part_of fraction.now) }
 {
-    match s {
-        Part::Is(v) => match f {
-            Part::Is(w) => Length::Is(Duration(v, w)),
-            Part::Wrong(why) => Length::Wrong(why),
-        },
-        Part::Wrong(why) => Length::Wrong(why),
-    }
+    Ok(Duration(part_in(seconds)?, part_in(fraction)?))
 }
 
 // How many microseconds the last of so many decimals is worth.
@@ -100,116 +55,64 @@ fn worth(count: usize) -> u64
     }
 }
 
-fn in_micros(s: u64, count: usize, decimals: Part) -> Length
-    requires { (count ≤ 6) × ((n : ℕ) → decimals ≡ Part.Is n → n < 10 ^ count) }
-    ensures { result ≡ in_micros s count decimals }
+// Seconds and decimals, of which there are at most six.
+#[tactic(auto, using(crate::proofs::Words::decimals))]
+fn decimals_in(seconds: &[u8], decimals: &[u8]) -> Result<Duration, Reason>
+    ensures { result ≡ with_decimals (part_of seconds.now) decimals.now }
 {
-    match decimals {
-        Part::Is(n) => {
-            let below = Duration::from_micros(n * worth(count));
-            Length::Is(Duration(s, below.1))
-        }
-        Part::Wrong(why) => Length::Wrong(why),
+    let whole = part_in(seconds)?;
+    let count = decimals.len();
+    if 6 < count {
+        return Err(Reason::TooManyDecimals);
     }
+    let n = part_in(decimals)?;
+    let below = Duration::from_micros(n * worth(count));
+    Ok(Duration(whole, below.1))
 }
 
-fn in_range(s: Option<Time>) -> Moment
-    ensures { result ≡ in_range s }
+#[tactic(auto, unfolding(crate::specs::Moments::length_of))]
+fn length_in(word: &[u8]) -> Result<Duration, Reason>
+    ensures { result ≡ length_of word.now }
 {
-    match s {
-        Some(t) => Moment::At(t),
-        None => Moment::Wrong(Reason::PastTheLastInstant),
+    if let Some(colon) = find(word, b':') {
+        return exactly_in(&word[..colon], &word[colon + 1..]);
     }
+    if let Some(point) = find(word, b'.') {
+        return decimals_in(&word[..point], &word[point + 1..]);
+    }
+    seconds_in(word)
 }
 
-fn at_length(l: Length) -> Moment
-    ensures { result ≡ at_length l }
+// A length after the time before, of which there has to be one.
+fn after(earlier: Option<Time>, length: &[u8]) -> Result<Time, Reason>
+    ensures { result ≡ after_length earlier (length_of length.now) }
 {
-    match l {
-        Length::Is(d) => Moment::At(Time(d.0, d.1)),
-        Length::Wrong(why) => Moment::Wrong(why),
-    }
+    let before = earlier.ok_or(Reason::NoTimeBefore)?;
+    let sum = before.checked_add(length_in(length)?);
+    sum.ok_or(Reason::PastTheLastInstant)
 }
 
-fn after_length(earlier: Before, l: Length) -> Moment
-    ensures { result ≡ after_length earlier l }
+// The time that a word stands for, after a line with a time or without one.
+#[tactic(auto, unfolding(crate::specs::Moments::moment_of))]
+pub fn moment_in(word: &[u8], earlier: Option<Time>) -> Result<Time, Reason>
+    ensures { result ≡ moment_of earlier word.now }
 {
-    match earlier {
-        Before::Nothing => Moment::Wrong(Reason::NoTimeBefore),
-        Before::At(t) => match l {
-            Length::Is(d) => in_range(t.checked_add(d)),
-            Length::Wrong(why) => Moment::Wrong(why),
-        },
+    if let Some((b'+', length)) = word.split_first() {
+        return after(earlier, length);
     }
-}
-
-fn part_in(line: &[u8], from: usize, to: usize) -> Part
-    requires { (from ≤ to) × (to ≤ length line.now) }
-    ensures { result ≡ part_of (slice from to line.now) }
-{
-    judged(digits::decimal(line, from, to))
-}
-
-#[tactic(auto, using(crate::proofs::Words::too_many, crate::proofs::Words::few))]
-fn with_decimals(s: Part, line: &[u8], from: usize, to: usize) -> Length
-    requires { (from ≤ to) × (to ≤ length line.now) }
-    ensures { result ≡ with_decimals s (slice from to line.now) }
-{
-    match s {
-        Part::Is(v) => {
-            if 6 < to - from {
-                return Length::Wrong(Reason::TooManyDecimals);
-            }
-            in_micros(v, to - from, part_in(line, from, to))
-        }
-        Part::Wrong(why) => Length::Wrong(why),
-    }
-}
-
-fn length_in(line: &[u8], from: usize, to: usize) -> Length
-    requires { (from ≤ to) × (to ≤ length line.now) }
-    ensures { result ≡ length_of (slice from to line.now) }
-{
-    let colon = byte_search::find(line, from, to, COLON);
-    if colon < to {
-        return exactly(part_in(line, from, colon), part_in(line, colon + 1, to));
-    }
-    let point = byte_search::find(line, from, to, POINT);
-    if point < to {
-        return with_decimals(part_in(line, from, point), line, point + 1, to);
-    }
-    seconds(part_in(line, from, to))
-}
-
-fn is_relative(line: &[u8], from: usize, to: usize) -> bool
-    requires { (from ≤ to) × (to ≤ length line.now) }
-    ensures { result ≡ is_relative (slice from to line.now) }
-{
-    if from < to {
-        return line[from] == PLUS;
-    }
-    false
-}
-
-// The time that a stretch of a line stands for.
-pub fn moment_in(line: &[u8], from: usize, to: usize, earlier: Before) -> Moment
-    requires { (from ≤ to) × (to ≤ length line.now) }
-    ensures { result ≡ moment_of earlier (slice from to line.now) }
-{
-    if is_relative(line, from, to) {
-        return after_length(earlier, length_in(line, from + 1, to));
-    }
-    at_length(length_in(line, from, to))
+    let length = length_in(word)?;
+    Ok(Time(length.0, length.1))
 }
 
 // The microseconds that have a fraction of a second for theirs, if any have.
-pub fn micros_of(fraction: u64) -> Exact
+#[tactic(auto, unfolding(crate::specs::Moments::exact_of))]
+pub fn micros_of(fraction: u64) -> Option<u64>
     ensures { result ≡ exact_of fraction }
 {
     let n = fraction / MICROSECOND;
-    let part = Duration::from_micros(n);
-    if (n < MICROS) & (part.1 == fraction) {
-        return Exact::Micros(n);
+    if n < MICROS && Duration::from_micros(n).1 == fraction {
+        Some(n)
+    } else {
+        None
     }
-    Exact::Raw
 }

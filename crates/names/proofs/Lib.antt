@@ -1,3 +1,1 @@
-pub mod Tables
 pub mod Sums
-pub mod Below

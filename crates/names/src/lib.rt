@@ -1,18 +1,17 @@
-// The names of a history: what a stretch of a line names.
+// The names of a history: what a word names.
 #![tactic(auto)]
 
-ghost use Rattle.std.specs.Prelude.{◌≡◌, ◌≤◌, length};
-ghost use Rattle.byte_search.specs.Search.{slice};
-ghost use Rattle.words.specs.Text.{place_of};
+ghost use Rattle.std.specs.Prelude.{◌≡◌};
+ghost use Rattle.words.specs.Text.{named};
 ghost use Rattle.names.specs.Names.{call_named, register_named, modes, modules, oscillators};
 
 use bits::{EBR1, FENR, FLMCR1, FLMCR2, FLPWCR};
-use words::spelling::place;
+use words::spelling::named;
 
 pub mod values;
 
 // What a line asks for.
-#[derive(Clone, Copy)]
+#[derive(Clone, Copy, Debug, PartialEq, Eq)]
 pub enum Kind {
     Write,
     Data,
@@ -23,77 +22,71 @@ pub enum Kind {
     PowerOff,
     Environment,
     Look,
-    Unknown,
 }
 
-// What names of bits make: a value, or nothing because one is there twice, or because one is no name.
-#[derive(Clone, Copy)]
-pub enum Bits {
-    Is(u8),
+// Why names of bits make no value: one is there twice, or one is no name.
+#[derive(Clone, Copy, Debug, PartialEq, Eq)]
+pub enum NoBits {
     Twice,
-    Not,
+    NoName,
 }
 
-pub fn call_named(line: &[u8], from: usize, to: usize) -> Kind
-    requires { (from ≤ to) × (to ≤ length line.now) }
-    ensures { result ≡ call_named (slice from to line.now) }
+pub fn call_named(word: &[u8]) -> Option<Kind>
+    ensures { result ≡ call_named word.now }
 {
-    let kinds = [
-        Kind::Write,
-        Kind::Data,
-        Kind::Read,
-        Kind::Word,
-        Kind::Protect,
-        Kind::Reset,
-        Kind::PowerOff,
-        Kind::Environment,
-        Kind::Look,
-        Kind::Unknown,
+    let calls = [
+        ("WRITE", Kind::Write),
+        ("DATA", Kind::Data),
+        ("READ", Kind::Read),
+        ("WORD", Kind::Word),
+        ("PROTECT", Kind::Protect),
+        ("RESET", Kind::Reset),
+        ("POWER-OFF", Kind::PowerOff),
+        ("ENVIRONMENT", Kind::Environment),
+        ("LOOK", Kind::Look),
     ];
-    let found = place(
-        line,
-        from,
-        to,
-        b"WRITE DATA READ WORD PROTECT RESET POWER-OFF ENVIRONMENT LOOK",
-    );
-    kinds[found]
+    named(word, &calls)
 }
 
-// A register's address, and 0 for no name of a register.
-pub fn register_named(line: &[u8], from: usize, to: usize) -> u16
-    requires { (from ≤ to) × (to ≤ length line.now) }
-    ensures { result ≡ register_named (slice from to line.now) }
+// A register's address.
+pub fn register_named(word: &[u8]) -> Option<u16>
+    ensures { result ≡ register_named word.now }
 {
-    let addresses = [FLMCR1, FLMCR2, FLPWCR, EBR1, FENR, 0];
-    let found = place(line, from, to, b"FLMCR1 FLMCR2 FLPWCR EBR1 FENR");
-    addresses[found]
+    let registers = [
+        ("FLMCR1", FLMCR1),
+        ("FLMCR2", FLMCR2),
+        ("FLPWCR", FLPWCR),
+        ("EBR1", EBR1),
+        ("FENR", FENR),
+    ];
+    named(word, &registers)
 }
 
-// A mode's number, and 6 for no name of a mode.
-pub fn mode_named(line: &[u8], from: usize, to: usize) -> usize
-    requires { (from ≤ to) × (to ≤ length line.now) }
-    ensures { result ≡ place_of modes (slice from to line.now) }
+// A mode's number.
+pub fn mode_named(word: &[u8]) -> Option<u8>
+    ensures { result ≡ named modes word.now }
 {
-    place(
-        line,
-        from,
-        to,
-        b"ACTIVE SUBACTIVE SLEEP SUBSLEEP WATCH STANDBY",
-    )
+    let modes = [
+        ("ACTIVE", 0),
+        ("SUBACTIVE", 1),
+        ("SLEEP", 2),
+        ("SUBSLEEP", 3),
+        ("WATCH", 4),
+        ("STANDBY", 5),
+    ];
+    named(word, &modes)
 }
 
-// Whether the module has its supply: 1 or 0, and 2 for neither name.
-pub fn module_named(line: &[u8], from: usize, to: usize) -> usize
-    requires { (from ≤ to) × (to ≤ length line.now) }
-    ensures { result ≡ place_of modules (slice from to line.now) }
+// Whether the module has its supply.
+pub fn module_named(word: &[u8]) -> Option<bool>
+    ensures { result ≡ named modules word.now }
 {
-    place(line, from, to, b"NO-MODULE MODULE")
+    named(word, &[("NO-MODULE", false), ("MODULE", true)])
 }
 
-// Whether the oscillator runs: 1 or 0, and 2 for neither name.
-pub fn oscillator_named(line: &[u8], from: usize, to: usize) -> usize
-    requires { (from ≤ to) × (to ≤ length line.now) }
-    ensures { result ≡ place_of oscillators (slice from to line.now) }
+// Whether the oscillator runs.
+pub fn oscillator_named(word: &[u8]) -> Option<bool>
+    ensures { result ≡ named oscillators word.now }
 {
-    place(line, from, to, b"NO-OSCILLATOR OSCILLATOR")
+    named(word, &[("NO-OSCILLATOR", false), ("OSCILLATOR", true)])
 }

@@ -1,87 +1,68 @@
 // The value of a register as names of its bits.
-ghost use Rattle.std.specs.Prelude.{◌≡◌, ◌≤◌, length};
-ghost use Rattle.byte_search.specs.Search.{slice};
-ghost use Rattle.names.specs.Names.{named, flag_named, control_bits, erase_bits, bit_named};
-ghost use Rattle.names.specs.Values.{bits_named};
+ghost use Rattle.std.specs.Prelude.{◌≡◌};
+ghost use Rattle.names.specs.Names.{bit_named};
+ghost use Rattle.names.specs.Values.{with_bit, bits_named};
 
-use crate::Bits;
+use crate::NoBits;
 use bits::{E, EBR1, ESU, EV, FENR, FLAG, FLMCR1, FLMCR2, FLPWCR, P, PSU, PV, SWE, has};
-use byte_search::find;
-use words::spelling::{place, spells};
+use words::spelling::named;
 
-fn control_bit(line: &[u8], from: usize, to: usize) -> u8
-    requires { (from ≤ to) × (to ≤ length line.now) }
-    ensures { result ≡ named control_bits 0 (slice from to line.now) }
+// A bit of a register.
+#[tactic(auto, unfolding(crate::specs::Names::bit_named))]
+fn bit_named(register: u16, word: &[u8]) -> Option<u8>
+    ensures { result ≡ bit_named register word.now }
 {
-    let values = [SWE, ESU, PSU, EV, PV, E, P, 0];
-    let found = place(line, from, to, b"SWE ESU PSU EV PV E P");
-    values[found]
+    match register {
+        FLMCR1 => named(
+            word,
+            &[
+                ("SWE", SWE),
+                ("ESU", ESU),
+                ("PSU", PSU),
+                ("EV", EV),
+                ("PV", PV),
+                ("E", E),
+                ("P", P),
+            ],
+        ),
+        FLMCR2 => named(word, &[("FLER", FLAG)]),
+        FLPWCR => named(word, &[("PDWND", FLAG)]),
+        EBR1 => named(
+            word,
+            &[
+                ("EB0", 0x01),
+                ("EB1", 0x02),
+                ("EB2", 0x04),
+                ("EB3", 0x08),
+                ("EB4", 0x10),
+                ("EB5", 0x20),
+            ],
+        ),
+        FENR => named(word, &[("FLSHE", FLAG)]),
+        _ => None,
+    }
 }
 
-fn erase_bit(line: &[u8], from: usize, to: usize) -> u8
-    requires { (from ≤ to) × (to ≤ length line.now) }
-    ensures { result ≡ named erase_bits 0 (slice from to line.now) }
+// A sum and the bit that a part names, which is not in it yet.
+#[tactic(auto, using(crate::proofs::Sums::bits))]
+fn with_bit(register: u16, sum: u8, part: &[u8]) -> Result<u8, NoBits>
+    ensures { result ≡ with_bit sum (bit_named register part.now) }
 {
-    let values = [0x01, 0x02, 0x04, 0x08, 0x10, 0x20, 0];
-    let found = place(line, from, to, b"EB0 EB1 EB2 EB3 EB4 EB5");
-    values[found]
-}
-
-// The one bit of a flag register.
-fn flag_bit(line: &[u8], from: usize, to: usize, name: &[u8]) -> u8
-    requires { (from ≤ to) × (to ≤ length line.now) }
-    ensures { result ≡ named (flag_named name.now) 0 (slice from to line.now) }
-{
-    if spells(line, from, to, name) {
-        FLAG
-    } else {
-        0
+    let bit = bit_named(register, part).ok_or(NoBits::NoName)?;
+    if has(sum, bit) {
+        return Err(NoBits::Twice);
     }
-}
-
-// A bit of a register, and 0 for no name of one.
-fn bit_named(register: u16, line: &[u8], from: usize, to: usize) -> u8
-    requires { (from ≤ to) × (to ≤ length line.now) }
-    ensures { result ≡ bit_named register (slice from to line.now) }
-{
-    if register == FLMCR1 {
-        return control_bit(line, from, to);
-    }
-    if register == FLMCR2 {
-        return flag_bit(line, from, to, b"FLER");
-    }
-    if register == FLPWCR {
-        return flag_bit(line, from, to, b"PDWND");
-    }
-    if register == EBR1 {
-        return erase_bit(line, from, to);
-    }
-    if register == FENR {
-        return flag_bit(line, from, to, b"FLSHE");
-    }
-    0
+    Ok(sum + bit)
 }
 
 // The value that the names of a register's bits make, which are joined by `+`.
-pub fn bits_named(register: u16, line: &[u8], from: usize, to: usize) -> Bits
-    requires { (from ≤ to) × (to ≤ length line.now) }
-    ensures { result ≡ bits_named register (slice from to line.now) }
+#[tactic(auto, unfolding(crate::specs::Values::bits_named))]
+pub fn bits_named(register: u16, word: &[u8]) -> Result<u8, NoBits>
+    ensures { result ≡ bits_named register word.now }
 {
     let mut sum: u8 = 0;
-    let mut i = from;
-    loop {
-        let end = find(line, i, to, b'+');
-        let bit = bit_named(register, line, i, end);
-        if bit == 0 {
-            return Bits::Not;
-        }
-        if has(sum, bit) {
-            return Bits::Twice;
-        }
-        sum += bit;
-        if end == to {
-            return Bits::Is(sum);
-        }
-        i = end + 1;
+    for part in word.split(|b| *b == b'+') {
+        sum = with_bit(register, sum, part)?;
     }
+    Ok(sum)
 }

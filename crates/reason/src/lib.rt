@@ -1,7 +1,7 @@
 // Why a line of a history can't be taken.
 #![tactic(auto)]
 
-#[derive(Clone, Copy)]
+#[derive(Clone, Copy, Debug, PartialEq, Eq)]
 pub enum Reason {
     // The time.
     NoTime,

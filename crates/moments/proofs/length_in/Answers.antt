@@ -1,12 +1,23 @@
--- `moments::length_in` meets its contract: where a byte is found says which form the word has. Assumes nothing.
-use Rattle.moments.proofs.Words.{is-exact, has-decimals, is_whole}
+-- Where a byte is found says which form the word has.
+use Rattle.std.proofs.Common.{sym}
+use Rattle.moments.specs.Moments.{length_of}
+use Rattle.moments.proofs.Words.{there, head, tail, not_there}
 use Rattle.moments.proofs.length_in.Goals as goal
 
-pub returns-then-colon-to : goal.returns-then-colon-to
-returns-then-colon-to c = rw (c.exactly.ensures, c.part_in-then-colon-to.ensures, c.part_in.ensures) (is-exact _ _ _ c.requires.0 c.requires.1 _ c.find-colon.ensures.0 c.if-colon-to.true)
+pub returns-in-Some : goal.returns-in-Some
+unfolding length_of
+returns-in-Some c =
+    let w = c.args.word.now in
+    let f = c.in-Some.ensures in
+    rw (c.exactly_in.ensures, there 58 w _ f, head 58 w _ f, tail 58 w _ f)
 
-pub returns-then-point-to : goal.returns-then-point-to
-returns-then-point-to c = rw (c.with_decimals.ensures, c.part_in-then-point-to.ensures) (has-decimals _ _ _ c.requires.0 c.requires.1 _ c.find-colon.ensures.0 c.if-colon-to.false _ c.find-point.ensures.0 c.if-point-to.true)
+pub returns-in-Some-find : goal.returns-in-Some-find
+unfolding length_of
+returns-in-Some-find c =
+    let w = c.args.word.now in
+    let f = c.in-Some-find.ensures in
+    rw (c.decimals_in.ensures, not_there 58 w c.in_default.ensures, there 46 w _ f, head 46 w _ f, tail 46 w _ f)
 
 pub returns : goal.returns
-returns c = rw (c.seconds.ensures, c.part_in-2.ensures) (is_whole _ _ _ c.requires.0 c.requires.1 _ c.find-colon.ensures.0 c.if-colon-to.false _ c.find-point.ensures.0 c.if-point-to.false)
+unfolding length_of
+returns c = let w = c.args.word.now in rw (c.seconds_in.ensures, not_there 58 w c.in_default.ensures, not_there 46 w c.in_default-find.ensures)

@@ -1,58 +1,26 @@
--- `names::values::bits_named` meets its contract. The loop's invariant: the sum so far with the parts left makes what all parts make.
--- Assumes nothing.
-use mathlib.Core.Path.{refl, sym, ◌∙◌}
-use Rattle.names.specs.Values.{bits_named}
-use Rattle.names.proofs.Sums.{bit-within, sum-not, sum_twice, sum-last, sum_more}
-use native.Mathlib.Omega.{arith}
+-- Each turn takes the next part, which the split gives.
+use Rattle.std.proofs.Common.{◌≡◌, ◌≤◌, length, Err, sym, ◌∙◌, rules, tests, eqb, arith}
+use Rattle.std.specs.List.{slice_split}
+use Rattle.std.proofs.lemmas.List.{length_push}
+use Rattle.std.proofs.lemmas.Iterator.Consumers.{YieldsList-turn, YieldsList-end}
+use Rattle.std.proofs.lemmas.Iterator.Splits.{YieldsList-from_slice_split}
+use Rattle.names.proofs.Sums.{ended, went_on, sum_all}
 use Rattle.names.proofs.values.bits_named.Goals as goal
 
-pub loop-register-init : goal.loop-register-init
-unfolding bits_named
-loop-register-init c = (refl, omega arith, omega arith)
+pub returns-in_err-sum : goal.returns-in_err-sum
+returns-in_err-sum c =
+    let t = YieldsList-turn (YieldsList-from_slice_split _ (λ b. eqb b 43) c.args.word.now (cc) (cc) (cc) (λ x b q k. search (rules, tests))) c.loop-part.yielded _ c.loop-part.yielded_by _ _ c.in-Some.part c.in-Some.is c.next.ensures.steps in
+    let r : c.from_residual.result ≡ Err c.in_err-sum.field-0.0 = search rules in
+    r ∙ sym (ended c.args.register c.loop-part.sum _ c.in-Some.part.now _ t _ c.in_err-sum.ensures) ∙ c.loop-part.invariant.2
 
-pub returns-then-bit-eq0 : goal.returns-then-bit-eq0
-returns-then-bit-eq0 c =
-    let l = c.loop-register in
-    let x = c.args in
-    let f = c.find-end in
-    let p = c.requires in
-    let step = sum-not x.register x.line.now l.i x.to f.result p.1 f.ensures.0 f.ensures.1 l.sum _ c.bit_named-bit.ensures in
-    sym (step c.if-bit-eq0.true) ∙ l.invariant.0
+pub loop-part-preserved : goal.loop-part-preserved
+loop-part-preserved c =
+    let t = YieldsList-turn (YieldsList-from_slice_split _ (λ b. eqb b 43) c.args.word.now (cc) (cc) (cc) (λ x b q k. search (rules, tests))) c.loop-part.yielded _ c.loop-part.yielded_by _ _ c.in-Some.part c.in-Some.is c.next.ensures.steps in
+    let e = went_on c.args.register c.loop-part.sum _ c.in-Some.part.now _ t _ c.in_ok-sum.ensures in
+    (search rules, tt, rw length_push (sym e ∙ c.loop-part.invariant.2))
 
-pub returns-then-has : goal.returns-then-has
-returns-then-has c =
-    let l = c.loop-register in
-    let x = c.args in
-    let f = c.find-end in
-    let p = c.requires in
-    let step = sum_twice x.register x.line.now l.i x.to f.result p.1 f.ensures.0 f.ensures.1 l.sum _ c.bit_named-bit.ensures in
-    sym (step c.if-bit-eq0.false (sym c.has.ensures ∙ c.if-has.true)) ∙ l.invariant.0
-
-pub overflow_add-sum : goal.overflow_add-sum
-overflow_add-sum c =
-    let l = c.loop-register in
-    let x = c.args in
-    let f = c.find-end in
-    let p = c.requires in
-    let step = bit-within x.register x.line.now l.i x.to f.result p.1 f.ensures.0 f.ensures.1 l.sum _ c.bit_named-bit.ensures in
-    omega (arith, step l.invariant.2 (sym c.has.ensures ∙ c.if-has.false))
-
-pub returns-then-end-to : goal.returns-then-end-to
-returns-then-end-to c =
-    let l = c.loop-register in
-    let x = c.args in
-    let f = c.find-end in
-    let p = c.requires in
-    let step = sum-last x.register x.line.now l.i x.to f.result p.1 f.ensures.0 f.ensures.1 l.sum _ c.bit_named-bit.ensures in
-    sym (step c.if-bit-eq0.false (sym c.has.ensures ∙ c.if-has.false) c.if-end-to.true) ∙ l.invariant.0
-
-pub loop-register-preserved : goal.loop-register-preserved
-loop-register-preserved c =
-    let l = c.loop-register in
-    let x = c.args in
-    let f = c.find-end in
-    let p = c.requires in
-    let step = sum_more x.register x.line.now l.i x.to f.result p.1 f.ensures.0 f.ensures.1 l.sum _ c.bit_named-bit.ensures in
-    let unset = sym c.has.ensures ∙ c.if-has.false in
-    let within = bit-within x.register x.line.now l.i x.to f.result p.1 f.ensures.0 f.ensures.1 l.sum _ c.bit_named-bit.ensures in
-    (step c.if-bit-eq0.false unset (omega arith) ∙ l.invariant.0, omega arith, within l.invariant.2 unset)
+pub returns : goal.returns
+returns c =
+    let t = YieldsList-end (YieldsList-from_slice_split _ (λ b. eqb b 43) c.args.word.now (cc) (cc) (cc) (λ x b q k. search (rules, tests))) c.loop-part.yielded _ c.loop-part.yielded_by _ _ c.in-None.is c.next.ensures.steps in
+    let over : length (slice_split (λ b. eqb b 43) c.args.word.now) ≤ length c.loop-part.yielded = omega (arith, t.1) in
+    sym (sum_all c.args.register c.loop-part.sum _ _ over) ∙ c.loop-part.invariant.2

@@ -1,15 +1,11 @@
--- `names::values::bits_named` meets its contract. The loop's invariant: the sum so far with the parts left makes what all parts make.
--- Assumes nothing.
-use Prim.Native.Nat.{◌≤◌, ◌<◌, ◌-◌}
-use mathlib.Core.Path.{◌≡◌}
-use Rattle.byte_search.specs.Search.{slice}
-use Rattle.words.specs.Text.{split}
+-- The sum so far with the parts left makes what all parts make.
+use Rattle.std.proofs.Common.{◌≡◌, length, drop, eqb}
+use Rattle.std.specs.List.{slice_split}
 use Rattle.names.specs.Values.{bits_from, bits_named}
 use Rattle.names.proofs.values.bits_named.Given as goal
 
-abbrev pub invariant-loop-register : goal.invariant-loop-register
-invariant-loop-register l =
-    (bits_from l.register l.sum (split 43 (slice l.i l.to l.line)) ≡ bits_named l.register (slice l.from l.to l.line)) × (l.i ≤ l.to) × (l.sum < 256)
-
-abbrev pub decreases-loop-register : goal.decreases-loop-register
-decreases-loop-register l = l.to - l.i
+abbrev pub invariant-loop-part : goal.invariant-loop-part
+invariant-loop-part l =
+    (goal.iterator-loop-part).can_next l.part-iterator
+    × (goal.iterator-loop-part).is_finite l.part-iterator
+    × (bits_from l.register l.sum (drop (length l.yielded) (slice_split (λ b. eqb b 43) l.word)) ≡ bits_named l.register l.word)
