@@ -23,7 +23,7 @@ use Rattle.serving.specs.Serving.{came_to, Notes, Serves}
 use Rattle.serving.proofs.Quiet.{noted-once}
 
 module _ (from to : ℕ) (calls lent : List ℕ) (m : Memory) (more : from < to) (long : 3 * to ≤ length calls)
-    {answer : Replayed} {bytes array charges events : List ℕ}
+    (answer : Replayed) {bytes array charges events : List ℕ}
     (r : Replays from (asks from to calls lent m) lent m answer.done (told answer.last) (value_of answer.last) (count_of answer.last) bytes array charges events) where
   -- at least one call is done, and none past the end
   pub done-some : (from < answer.done) × (answer.done ≤ to)

@@ -101,7 +101,9 @@ fn noted(
 {
     let next = answer.done;
     match answer.last {
-        Ok(answer) => made(course, manner, line, request, time, events, next, answer, out),
+        Ok(answer) => made(
+            course, manner, line, request, time, events, next, answer, out,
+        ),
         Err(refusal) => Served {
             course: after_refusal(course, manner.go_on),
             next,
