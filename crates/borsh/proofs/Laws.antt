@@ -13,7 +13,8 @@ use Rattle.cell.specs.Cell.{at}
 use Rattle.layout.specs.Layout.{word, bytes, flag_byte, flag_of}
 use Rattle.layout.proofs.Widths.{length-bytes, word_bytes, bytes_word, word_small}
 use Rattle.layout.proofs.Accepted.{flag-known}
-use Rattle.borsh.specs.Borsh.{Read, got, refused, next, Borsh, int, only, mapped, enum, bool, ◌then◌, Option, none, some, option, write_option, write_all, read_all, array, vec}
+use Rattle.std.specs.Prelude.{Option, Some, None}
+use Rattle.borsh.specs.Borsh.{Read, got, refused, next, Borsh, int, only, mapped, enum, bool, ◌then◌, option, write_option, write_all, read_all, array, vec}
 
 infixr 4 ◌and◌
 -- ---- what a law says
@@ -160,24 +161,24 @@ then-lawful {f} {g} l m =
 
 -- what is good of an option is what is good of its value
 abbrev pub GoodOption : {A : Type 0} → (A → Type 0) → Option A → Type 0
-GoodOption Good none = Unit
-GoodOption Good (some v) = Good v
+GoodOption Good None = Unit
+GoodOption Good (Some v) = Good v
 
 pub option-lawful : {A : Type 0} {Good : A → Type 0} {f : Borsh A} → Lawful Good f → Lawful (GoodOption Good) (option f)
 unfolding option
 option-lawful {A} {Good} {f} l = lawful back (λ xs b. next-reads (reads bool_lawful xs b) (exact xs))
   where
     back : (v : Option A) → GoodOption Good v → (rest : List ℕ) → (option f).read ((option f).write v ++ rest) ≡ got v rest
-    back none h rest = rw (bool_lawful.back false tt rest)
-    back (some v) h rest =
+    back None h rest = rw (bool_lawful.back false tt rest)
+    back (Some v) h rest =
         rw (append_assoc (bool.write true) (f.write v) rest, bool_lawful.back true tt (f.write v ++ rest), l.back v h rest)
 
     exact : (xs : List ℕ) (s : Bool) (rest : List ℕ) → Exact Any bool.write xs s rest
         → Reads (Exact (GoodOption Good) (write_option f.write) xs)
-        (cond s (next (λ v end. got (some v) end) (f.read rest)) (got none rest))
-    exact xs false rest x = is-got none rest (x.0, (tt, x.1.1))
+        (cond s (next (λ v end. got (Some v) end) (f.read rest)) (got None rest))
+    exact xs false rest x = is-got None rest (x.0, (tt, x.1.1))
     exact xs true rest x = next-reads (reads l rest x.1.1) λ v end y.
-        is-got (some v) end (joined (bool.write true) (f.write v) end x.0 y.0, (y.1.0, y.1.1))
+        is-got (Some v) end (joined (bool.write true) (f.write v) end x.0 y.0, (y.1.0, y.1.1))
 
 -- each value is good after those before it, the last of them first
 abbrev pub Each : {A : Type 0} → (List A → A → Type 0) → List A → List A → Type 0

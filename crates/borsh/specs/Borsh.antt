@@ -2,7 +2,7 @@
 -- little-endian; a bool is a byte 0 or 1; an enum is its discriminant's byte; an option is a byte 0, or a byte 1 and its value; a fixed
 -- array is its values; a vec is its count in four bytes and its values; a struct is its fields in order.
 -- Assumes nothing.
-use Rattle.std.specs.Prelude.{ℕ, zero, suc, List, [], ◌∷◌, ◌++◌, Bool, true, false, cond, length, drop, ltb, leb}
+use Rattle.std.specs.Prelude.{ℕ, zero, suc, List, [], ◌∷◌, ◌++◌, Bool, true, false, cond, length, drop, ltb, leb, Option, Some, None}
 use Rattle.layout.specs.Layout.{word, bytes, flag_byte, flag_of}
 
 infixr 4 ◌then◌
@@ -54,19 +54,15 @@ f then g =
       read = λ xs. next (λ a rest. next (λ b end. got (a, b) end) (g.read rest)) (f.read xs);
     }
 
-pub data Option (A : Type 0) : Type 0 where
-  none : Option A
-  some : A → Option A
-
 abbrev pub write_option : {A : Type 0} → (A → List ℕ) → Option A → List ℕ
-write_option w none = bool.write false
-write_option w (some v) = bool.write true ++ w v
+write_option w None = bool.write false
+write_option w (Some v) = bool.write true ++ w v
 
 unfoldable pub option : {A : Type 0} → Borsh A → Borsh (Option A)
 option f =
     record {
       write = write_option f.write;
-      read = λ xs. next (λ b rest. cond b (next (λ v end. got (some v) end) (f.read rest)) (got none rest)) (bool.read xs);
+      read = λ xs. next (λ b rest. cond b (next (λ v end. got (Some v) end) (f.read rest)) (got None rest)) (bool.read xs);
     }
 
 -- values one after the other

@@ -3,7 +3,6 @@
 
 ghost use Rattle.std.specs.Prelude.{◌≡◌};
 ghost use Rattle.time.specs.Raw.{BeforeLastSecond};
-ghost use Rattle.registers.specs.Pulses.{is_open};
 ghost use Rattle.registers.specs.Calls.{next, settles, writes_control, ending, ending_number};
 
 use access::write_register;
@@ -11,7 +10,7 @@ use bits::{FENR, FLMCR1, SWE, setup};
 use cell::Direction;
 use environment::{environment, power_off, reset, unchanged};
 use latch::write8;
-use registers::{Call, Ending, OpenPulse, Registers};
+use registers::{Call, Ending, Registers};
 use time::Time;
 
 fn writes_control(call: Call) -> bool
@@ -48,15 +47,6 @@ pub fn ending_number(ending: Ending) -> u8
     }
 }
 
-fn is_open(pulse: OpenPulse) -> bool
-    ensures { result ≡ is_open pulse }
-{
-    match pulse {
-        OpenPulse::Closed => false,
-        OpenPulse::Open(_) => true,
-    }
-}
-
 // The registers after an accepted call.
 pub fn next(registers: Registers, call: Call, now: Time) -> Registers
     requires { BeforeLastSecond now }
@@ -85,7 +75,7 @@ pub fn settles(registers: Registers, call: Call, now: Time) -> bool
         Call::Write8(_, _) => true,
         Call::Read8(_) => !registers.normal(now),
         Call::Read16(_) => !registers.normal(now),
-        Call::Protect => is_open(registers.pulse()),
+        Call::Protect => registers.pulse().is_some(),
         Call::Reset => true,
         Call::PowerOff => true,
         Call::Environment(mode, module, oscillator) => !unchanged(

@@ -4,7 +4,7 @@ ghost use Rattle.layout.specs.Layout.{flag_byte, supply_of, mode_of, option_byte
 
 use cell::PAGE;
 use control::supplies::{mode_number, supply_number};
-use control::{Mode, Pending, Supply};
+use control::{Mode, PendingSense, Supply};
 use registers::Registers;
 use time::Time;
 
@@ -37,40 +37,43 @@ pub fn mode_of(b: u8) -> Mode
     }
 }
 
-fn option_byte(pending: Pending) -> u8
+fn option_byte(pending: Option<PendingSense>) -> u8
     ensures { result ≡ option_byte pending }
 {
     match pending {
-        Pending::Nothing => 0,
-        Pending::Sense(_, _) => 1,
+        None => 0,
+        Some(_) => 1,
     }
 }
 
-fn pending_address(pending: Pending) -> u16
+fn pending_address(pending: Option<PendingSense>) -> u16
     ensures { result ≡ pending_address pending }
 {
     match pending {
-        Pending::Nothing => 0,
-        Pending::Sense(address, _) => address,
+        None => 0,
+        Some(sense) => sense.address,
     }
 }
 
-fn pending_instant(pending: Pending) -> Time
+fn pending_instant(pending: Option<PendingSense>) -> Time
     ensures { result ≡ pending_instant pending }
 {
     match pending {
-        Pending::Nothing => Time(0, 0),
-        Pending::Sense(_, instant) => instant,
+        None => Time(0, 0),
+        Some(sense) => sense.at,
     }
 }
 
-fn pending_of(option: u8, address: u16, instant: Time) -> Pending
+fn pending_of(option: u8, address: u16, instant: Time) -> Option<PendingSense>
     ensures { result ≡ pending_of option address instant }
 {
     if option == 1 {
-        Pending::Sense(address, instant)
+        Some(PendingSense {
+            address,
+            at: instant,
+        })
     } else {
-        Pending::Nothing
+        None
     }
 }
 

@@ -27,11 +27,11 @@ pub enum Supply {
     Stopped,
 }
 
-// A verify sense of four bytes, due at an instant.
+// A verify sense of four bytes from an address on, due at an instant.
 #[derive(Clone, Copy)]
-pub enum Pending {
-    Nothing,
-    Sense(u16, Time),
+pub struct PendingSense {
+    pub address: u16,
+    pub at: Time,
 }
 
 // Pages from the first on.

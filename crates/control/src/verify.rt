@@ -3,26 +3,22 @@ ghost use Rattle.std.specs.Prelude.{◌≡◌};
 ghost use Rattle.control.specs.Verify.{sense_due, pending_after};
 
 use crate::supplies::supply_number;
-use crate::{Pending, Supply};
+use crate::{PendingSense, Supply};
 use time::Time;
 
 // Whether a pending sense is due at a settle.
-pub fn sense_due(pending: Pending, supply: Supply, now: Time) -> bool
+pub fn sense_due(pending: Option<PendingSense>, supply: Supply, now: Time) -> bool
     ensures { result ≡ sense_due pending supply now }
 {
     match pending {
-        Pending::Nothing => false,
-        Pending::Sense(_, at) => now.reached(at) & !(supply_number(supply) == 2),
+        None => false,
+        Some(sense) => now.reached(sense.at) & !(supply_number(supply) == 2),
     }
 }
 
 // The pending sense after control goes from `old` to `new`.
-pub fn pending_after(old: u8, new: u8, pending: Pending) -> Pending
+pub fn pending_after(old: u8, new: u8, pending: Option<PendingSense>) -> Option<PendingSense>
     ensures { result ≡ pending_after old new pending }
 {
-    if old % 16 == new % 16 {
-        pending
-    } else {
-        Pending::Nothing
-    }
+    if old % 16 == new % 16 { pending } else { None }
 }

@@ -7,7 +7,7 @@ ghost use Rattle.registers.specs.Environment.{cleared, reset, power_off, unchang
 
 use cell::PAGE;
 use control::supplies::{mode_number, supply_in, supply_number};
-use control::{Mode, Pending, Supply};
+use control::{Mode, Supply};
 use registers::Registers;
 use time::Time;
 use waits::{ESU_RISE, PSU_RISE, SUPPLY_CHANGE, SWE_RISE, renewed};
@@ -20,7 +20,7 @@ fn cleared(registers: Registers) -> Registers
         control: 0,
         error: false,
         erase: 0,
-        verify_pending: Pending::Nothing,
+        verify_pending: None,
         ..registers
     }
 }

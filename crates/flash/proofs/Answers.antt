@@ -8,12 +8,11 @@ use Prim.Native.Nat.{ℕ, suc, ◌%◌}
 use native.Mathlib.Omega.{arith}
 use lib.Dec.{eqb}
 use borrow.Author.Tests.{eqb-true, not-false, not-true}
+use Rattle.std.specs.Prelude.{Option, Some, None}
 use Rattle.time.specs.declared.Time.{Time}
 use Rattle.control.specs.Bits.{PSU, ESU, has, low, verifies}
 use Rattle.registers.specs.declared.Registers.{Registers}
 use Rattle.registers.specs.declared.Pulse.{Pulse}
-use Rattle.registers.specs.declared.OpenPulse.{OpenPulse}
-use Rattle.registers.specs.declared.OpenPulse.TheVariants.{Closed, Open}
 use Rattle.registers.specs.declared.Call.{Call}
 use Rattle.registers.specs.declared.Call.TheVariants.{WriteRegister, Write8, Read8, Read16, Protect, Reset, PowerOff, Environment}
 use Rattle.registers.specs.Access.{settled}
@@ -25,12 +24,12 @@ use Rattle.settle.specs.Settling.{sensed_by}
 use Rattle.flash.specs.Chip.{Chip, registers, sensed_at, step_if, step, verified, unserved, byte_read, word_read, answer, stored_answer, settled_answer}
 
 -- under an open pulse the low four bits are P or E, so neither PV nor EV is alone
-open-verifies : (r : Registers) (p : Pulse) → pulse r ≡ Open p → verifies r.control ≡ false
+open-verifies : (r : Registers) (p : Pulse) → pulse r ≡ Some p → verifies r.control ≡ false
 unfolding pulse
 open-verifies r p e = by (powered r) (eqb (low r.control) 1) (eqb (low r.control) 2) refl refl (ap is_open e)
   where
     by : (w a b : Bool) → eqb (low r.control) 1 ≡ a → eqb (low r.control) 2 ≡ b
-        → is_open (cond w (cond (a && has r.control PSU) (Open (program_pulse r)) (cond (b && has r.control ESU) (Open (erase_pulse r)) Closed)) Closed) ≡ true
+        → is_open (cond w (cond (a && has r.control PSU) (Some (program_pulse r)) (cond (b && has r.control ESU) (Some (erase_pulse r)) None)) None) ≡ true
         → verifies r.control ≡ false
     by false a b h k o = absurd (true≢false (sym o))
     by true true b h k o = rw (eqb-true (low r.control) 1 h)
@@ -38,7 +37,7 @@ open-verifies r p e = by (powered r) (eqb (low r.control) 1) (eqb (low r.control
     by true false false h k o = absurd (true≢false (sym o))
 
 -- nor is reading normal
-open-unread : (r : Registers) (p : Pulse) → pulse r ≡ Open p → eqb (r.control % 64) 0 ≡ false
+open-unread : (r : Registers) (p : Pulse) → pulse r ≡ Some p → eqb (r.control % 64) 0 ≡ false
 open-unread r p e = by (eqb (r.control % 64) 0) refl
   where
     by : (b : Bool) → eqb (r.control % 64) 0 ≡ b → b ≡ false
@@ -64,13 +63,13 @@ module _ (b : ℕ) (now : Time) (r : Registers) where
   settled-control = ap (λ x. x.control) (settled-fields now r)
 
   -- a read after one that settled, whichever pulse that found
-  after_one : (o : OpenPulse) → pulse r ≡ o → normal now r ≡ false → (x : ℕ) (c : Cells) (sensed : List ℕ)
+  after_one : (o : Option Pulse) → pulse r ≡ o → normal now r ≡ false → (x : ℕ) (c : Cells) (sensed : List ℕ)
       → cond (normal now (tripped o now (settled now r))) x
       (unserved b now (pulse (tripped o now (settled now r))) (tripped o now (settled now r)) (sensed_by (tripped o now (settled now r)) now c sensed))
       ≡ unserved b now o r sensed
   unfolding normal pulse verified
-  after_one Closed e n x c sensed = rw (settled-normal, n, settled-pulse now r, e, settled-sensed c sensed) (settled-verified sensed)
-  after_one (Open p) e n x c sensed = rw (settled-control, open-unread r p e, open-verifies r p e)
+  after_one None e n x c sensed = rw (settled-normal, n, settled-pulse now r, e, settled-sensed c sensed) (settled-verified sensed)
+  after_one (Some p) e n x c sensed = rw (settled-control, open-unread r p e, open-verifies r p e)
 
 pub read_again : (a b : ℕ) (now : Time) (k : Chip) → normal now (registers k) ≡ false
     → byte_read b now (step (Read8 a) now k).chip ≡ unserved b now (pulse (registers k)) (registers k) (sensed_at now k)

@@ -4,13 +4,14 @@ use mathlib.Core.Bool.{Bool, true, false, cond, ◌&&◌}
 use Prim.Native.Nat.{ℕ, ◌+◌, ◌<◌, ◌≤◌}
 use native.Mathlib.Omega.{arith}
 use lib.Dec.{eqb}
+use Rattle.std.specs.Prelude.{Option}
 use Rattle.cell.specs.Cell.{array_bytes, pages}
 use Rattle.control.specs.declared.Range.{Range}
 use Rattle.control.specs.Bits.{ESU, PSU, E, P, has, low}
 use Rattle.control.specs.Blocks.{erase_range}
 use Rattle.registers.specs.declared.Registers.{Registers}
-use Rattle.registers.specs.declared.OpenPulse.{OpenPulse}
 use Rattle.registers.specs.Pulses.{powered, pulse}
+use Rattle.registers.specs.declared.Pulse.{Pulse}
 use Rattle.settle.specs.Settling.{range_end}
 
 either-block : (b : Bool) (x y : Range) → x.first + x.pages ≤ pages → y.first + y.pages ≤ pages → (cond b x y).first + (cond b x y).pages ≤ pages
@@ -28,7 +29,7 @@ erase-inside e =
     (either-block (eqb e 32) _ _ (omega arith)
     (omega arith))))))
 
-either-inside : (b : Bool) (o o' : OpenPulse) → range_end o ≤ pages → range_end o' ≤ pages → range_end (cond b o o') ≤ pages
+either-inside : (b : Bool) (o o' : Option Pulse) → range_end o ≤ pages → range_end o' ≤ pages → range_end (cond b o o') ≤ pages
 either-inside true o o' h k = h
 either-inside false o o' h k = k
 

@@ -10,10 +10,10 @@ use native.Mathlib.Omega.{arith}
 use native.Mathlib.Decide.{dec_le}
 use lib.ListN.{length, length-append}
 use lib.Seq.{sets, length-sets}
+use Rattle.std.specs.Prelude.{Option}
 use Rattle.time.specs.declared.Time.{Time}
 use Rattle.cell.specs.Cell.{array_bytes, array_cells, pages}
 use Rattle.registers.specs.declared.Registers.{Registers}
-use Rattle.registers.specs.declared.OpenPulse.{OpenPulse}
 use Rattle.registers.specs.declared.Call.{Call}
 use Rattle.registers.specs.Pulses.{pulse}
 use Rattle.registers.specs.Calls.{settles, next}
@@ -24,6 +24,7 @@ use Rattle.settle.proofs.Slots.{Slots, slots-from, slots-sound}
 use Rattle.settle.proofs.Expose.{settled-slots, settled-array-length}
 use Rattle.settle.proofs.Stored.{sets-append}
 use Rattle.flash.proofs.Room.{changes-room}
+use Rattle.registers.specs.declared.Pulse.{Pulse}
 use Rattle.flash.proofs.Answers.{settled-value, stored-value}
 
 -- k + 1 words, where k is not 0, are at least k
@@ -34,7 +35,7 @@ room-le k n h = by (dec_le 1 k)
     by (yes g) = omega (arith, h g)
     by (no g) = omega arith
 
-module _ (now : Time) (k : Chip) (fit : Fit k) (o : OpenPulse) (open_is : o ≡ pulse (registers k)) {lent index array charges events : List ℕ} {count : ℕ}
+module _ (now : Time) (k : Chip) (fit : Fit k) (o : Option Pulse) (open_is : o ≡ pulse (registers k)) {lent index array charges events : List ℕ} {count : ℕ}
     (left : Left (settled_by o (registers k).latch k.flash.pulse_since now (cells k))
     (changes 0 k.array (settled_by o (registers k).latch k.flash.pulse_since now (cells k)).array) lent index array charges events count) where
   slots-left : Slots index charges

@@ -10,10 +10,9 @@ use native.Mathlib.Decide.{dec_le}
 use borrow.Author.Tests.{eq-eqb}
 use lib.ListN.{length, length-append}
 use lib.Dec.{eqb}
+use Rattle.std.specs.Prelude.{Option, Some, None}
 use Rattle.time.specs.declared.Time.{Time}
 use Rattle.registers.specs.declared.Pulse.{Pulse}
-use Rattle.registers.specs.declared.OpenPulse.{OpenPulse}
-use Rattle.registers.specs.declared.OpenPulse.TheVariants.{Closed, Open}
 use Rattle.registers.specs.declared.Call.{Call}
 use Rattle.registers.specs.Pulses.{pulse}
 use Rattle.registers.specs.Calls.{next, settles, ending, ending_number}
@@ -31,11 +30,11 @@ expose-room p latch zero c = rw (changes-same 0 c.array) (omega arith)
 expose-room p latch (suc l) c =
     rw resensed-spanned (le_trans (changes-count (p.first * 128) ((p.first + p.pages) * 128) _ 0 c.array) (omega arith))
 
-settled-room : (latch : List ℕ) (since now : Time) (c : Cells) (o : OpenPulse)
+settled-room : (latch : List ℕ) (since now : Time) (c : Cells) (o : Option Pulse)
     → length (changes 0 c.array (settled_by o latch since now c).array) ≤ range_bytes o
 unfolding settled_by
-settled-room latch since now c Closed = rw (changes-same 0 c.array) (omega arith)
-settled-room latch since now c (Open p) = expose-room p latch (exposure p since now) c
+settled-room latch since now c None = rw (changes-same 0 c.array) (omega arith)
+settled-room latch since now c (Some p) = expose-room p latch (exposure p since now) c
 
 pub changes-room : (now : Time) (k : Chip) → length (changes 0 k.array (settled_at now k).array) ≤ range_bytes (pulse (registers k))
 changes-room now k = settled-room (registers k).latch k.flash.pulse_since now (cells k) (pulse (registers k))
@@ -46,18 +45,18 @@ end-room : (b : Bool) (w : ℕ) → length (cond b [] (w ∷ [])) ≤ 1
 end-room true w = omega arith
 end-room false w = omega arith
 
-ended-room : (c : Call) (control : ℕ) (o : OpenPulse) → length (ended c control o) ≤ 1
+ended-room : (c : Call) (control : ℕ) (o : Option Pulse) → length (ended c control o) ≤ 1
 unfolding ended end_of
-ended-room c control Closed = omega arith
-ended-room c control (Open p) =
+ended-room c control None = omega arith
+ended-room c control (Some p) =
     end-room (eqb p.pages 0) (word (ending_number (ending p.direction c control)) (p.first * 128) (p.pages * 128))
 
-ended-none : (c : Call) (control : ℕ) (o : OpenPulse) → range_bytes o ≡ 0 → ended c control o ≡ []
+ended-none : (c : Call) (control : ℕ) (o : Option Pulse) → range_bytes o ≡ 0 → ended c control o ≡ []
 unfolding ended end_of
-ended-none c control Closed e = refl
-ended-none c control (Open p) e = rw (eq-eqb p.pages 0 (omega arith))
+ended-none c control None e = refl
+ended-none c control (Some p) e = rw (eq-eqb p.pages 0 (omega arith))
 
-module _ (c : Call) (control : ℕ) (old new : OpenPulse) where
+module _ (c : Call) (control : ℕ) (old new : Option Pulse) where
   pub ends-room : length (ends_of c control old new) ≤ 1
   ends-room = by (same_pulse old new)
     where

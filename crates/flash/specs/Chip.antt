@@ -1,7 +1,7 @@
 -- The chip: the state with the array and the charges that it is lent, and what an accepted call does to it, word by word. Document
 -- 01, "Supply and reset" and "Pulses and settling".
 -- Assumes nothing.
-use Rattle.std.specs.Prelude.{ℕ, suc, ◌+◌, ◌*◌, ◌%◌, ◌^◌, ◌≤◌, ◌<◌, ◌≡◌, Bool, true, false, cond, not, ◌&&◌, List, [], ◌++◌, ltb, length, replicate}
+use Rattle.std.specs.Prelude.{ℕ, suc, ◌+◌, ◌*◌, ◌%◌, ◌^◌, ◌≤◌, ◌<◌, ◌≡◌, Bool, true, false, cond, not, ◌&&◌, List, [], ◌++◌, ltb, length, replicate, Option}
 use Rattle.std.proofs.lemmas.List.Edits.{sets}
 use Rattle.time.specs.declared.Time.{Time}
 use Rattle.time.specs.Raw.{instant}
@@ -10,7 +10,6 @@ use Rattle.control.specs.Bits.{verifies}
 use Rattle.control.specs.Waits.{reached}
 use Rattle.control.specs.Supplies.{is_stopped}
 use Rattle.registers.specs.declared.Registers.{Registers}
-use Rattle.registers.specs.declared.OpenPulse.{OpenPulse}
 use Rattle.registers.specs.declared.Call.{Call}
 use Rattle.registers.specs.declared.Call.TheVariants.{WriteRegister, Write8, Read8, Read16, Protect, Reset, PowerOff, Environment}
 use Rattle.registers.specs.Pulses.{pulse, is_open, normal}
@@ -18,6 +17,7 @@ use Rattle.registers.specs.Environment.{fresh}
 use Rattle.registers.specs.Calls.{next, settles}
 use Rattle.flash.specs.declared.Flash.{Flash}
 use Rattle.settle.specs.Pages.{Cells, slots_sound}
+use Rattle.registers.specs.declared.Pulse.{Pulse}
 use Rattle.settle.specs.Settling.{range_end, sense_address, settled_by, changes, end_words, sensed_by}
 
 pub record Chip : Type 0 where
@@ -113,7 +113,7 @@ verified a now r sensed =
     cond (verifies r.control && not (is_stopped r.supply) && reached now r.ready) (at sensed (a % 4)) 0xFF
 
 -- An open pulse trips protection, answer FF.
-abbrev pub unserved : ℕ → Time → OpenPulse → Registers → List ℕ → ℕ
+abbrev pub unserved : ℕ → Time → Option Pulse → Registers → List ℕ → ℕ
 unserved a now pulse r sensed = cond (is_open pulse) 0xFF (verified a now r sensed)
 
 -- Normal reading: the stored byte.
@@ -160,7 +160,7 @@ stored_answer Reset array = 0
 stored_answer PowerOff array = 0
 stored_answer (Environment mode modul oscillator) array = 0
 
-abbrev pub settled_answer : Call → Time → OpenPulse → Registers → List ℕ → ℕ
+abbrev pub settled_answer : Call → Time → Option Pulse → Registers → List ℕ → ℕ
 settled_answer (WriteRegister a v) now pulse r sensed = 0
 settled_answer (Write8 a v) now pulse r sensed = 0
 settled_answer (Read8 a) now pulse r sensed = unserved a now pulse r sensed

@@ -6,7 +6,7 @@ ghost use Rattle.time.specs.Raw.{BeforeLastSecond};
 ghost use Rattle.registers.specs.Latch.{takes_data, latched, sense_pending, data_taken, data_write, write8};
 
 use bits::{EV, PV, SWE, has};
-use control::Pending;
+use control::PendingSense;
 use control::supplies::supply_number;
 use registers::{PAGE_BYTES, Registers};
 use time::Time;
@@ -45,7 +45,10 @@ fn sense_pending(registers: Registers, address: u16, now: Time) -> Registers
         .max(registers.recovery)
         .max(registers.ready);
     Registers {
-        verify_pending: Pending::Sense(address / 4 * 4, at),
+        verify_pending: Some(PendingSense {
+            address: address / 4 * 4,
+            at,
+        }),
         ..registers
     }
 }

@@ -14,8 +14,8 @@ use Rattle.control.specs.declared.Mode.{Mode}
 use Rattle.control.specs.declared.Mode.TheVariants.{Active, Subactive, Sleep, Subsleep, Watch, Standby}
 use Rattle.control.specs.declared.Supply.{Supply}
 use Rattle.control.specs.declared.Supply.TheVariants.{Normal, Reduced, Stopped}
-use Rattle.control.specs.declared.Pending.{Pending}
-use Rattle.control.specs.declared.Pending.TheVariants.{Nothing, Sense}
+use Rattle.control.specs.declared.PendingSense.{PendingSense}
+use Rattle.std.specs.Prelude.{Option, Some, None}
 use Rattle.registers.specs.declared.Registers.{Registers}
 use Rattle.flash.specs.declared.Flash.{Flash}
 use Rattle.cell.specs.Cell.{at, page_bytes, array_bytes}
@@ -153,7 +153,7 @@ placed-says a step e =
 pending-sound : (b a : ℕ) (t : Time) → placed a 4 ≡ true → PendingSound (pending_of b a t)
 pending-sound b a t h = by (eqb b 1)
   where
-    by : (c : Bool) → PendingSound (cond c (Sense a t) Nothing)
+    by : (c : Bool) → PendingSound (cond c (Some (record { address = a; at = t })) None)
     by true = placed-says a 4 h
     by false = tt
 
@@ -188,20 +188,20 @@ mode-told Subsleep = refl
 mode-told Watch = refl
 mode-told Standby = refl
 
-option-told : (p : Pending) → option_known (option_byte p) ≡ true
-option-told Nothing = refl
-option-told (Sense a t) = refl
+option-told : (p : Option PendingSense) → option_known (option_byte p) ≡ true
+option-told None = refl
+option-told (Some p) = refl
 
-clear_told : (p : Pending) → nothing_clear (option_byte p) (pending_address p) (pending_instant p) ≡ true
-clear_told Nothing = refl
-clear_told (Sense a t) = refl
+clear_told : (p : Option PendingSense) → nothing_clear (option_byte p) (pending_address p) (pending_instant p) ≡ true
+clear_told None = refl
+clear_told (Some p) = refl
 
 pub placed-told : (a step : ℕ) → a % step ≡ 0 → a < array_bytes → placed a step ≡ true
 placed-told a step e l = rw (e, lt-ltb a array_bytes l)
 
-address-told : (p : Pending) → PendingSound p → placed (pending_address p) 4 ≡ true
-address-told Nothing f = refl
-address-told (Sense a t) f = placed-told a 4 f.0 f.1
+address-told : (p : Option PendingSense) → PendingSound p → placed (pending_address p) 4 ≡ true
+address-told None f = refl
+address-told (Some p) f = placed-told p.address 4 f.0 f.1
 
 head-told : (r : Registers) → head_known (head_of r) ≡ true
 unfolding head_known head_of

@@ -11,8 +11,8 @@ use Rattle.control.specs.declared.Mode.{Mode}
 use Rattle.control.specs.declared.Mode.TheVariants.{Active, Subactive, Sleep, Subsleep, Watch, Standby}
 use Rattle.control.specs.declared.Supply.{Supply}
 use Rattle.control.specs.declared.Supply.TheVariants.{Normal, Reduced, Stopped}
-use Rattle.control.specs.declared.Pending.{Pending}
-use Rattle.control.specs.declared.Pending.TheVariants.{Nothing, Sense}
+use Rattle.control.specs.declared.PendingSense.{PendingSense}
+use Rattle.std.specs.Prelude.{Option, Some, None}
 use Rattle.registers.specs.declared.Registers.{Registers}
 use Rattle.flash.specs.declared.Flash.{Flash}
 use Rattle.cell.specs.Cell.{at, pages}
@@ -51,17 +51,17 @@ mode-fits Subsleep = lit< tt
 mode-fits Watch = lit< tt
 mode-fits Standby = lit< tt
 
-option-fits : (p : Pending) → option_byte p < 256
-option-fits Nothing = lit< tt
-option-fits (Sense a t) = lit< tt
+option-fits : (p : Option PendingSense) → option_byte p < 256
+option-fits None = lit< tt
+option-fits (Some p) = lit< tt
 
-address-fits : (p : Pending) → PendingFits p → pending_address p < 2 ^ 16
-address-fits Nothing f = lit< tt
-address-fits (Sense a t) f = f.0
+address-fits : (p : Option PendingSense) → PendingFits p → pending_address p < 2 ^ 16
+address-fits None f = lit< tt
+address-fits (Some p) f = f.0
 
-instant-fits : (p : Pending) → PendingFits p → TimeFits (pending_instant p)
-instant-fits Nothing f = record { whole = lit< tt; part = lit< tt }
-instant-fits (Sense a t) f = f.1
+instant-fits : (p : Option PendingSense) → PendingFits p → TimeFits (pending_instant p)
+instant-fits None f = record { whole = lit< tt; part = lit< tt }
+instant-fits (Some p) f = f.1
 
 head-fits : (r : Registers) → RegistersFit r → RowFits 10 1 (head_of r)
 unfolding head_of
@@ -117,9 +117,9 @@ mode-back Subsleep = refl
 mode-back Watch = refl
 mode-back Standby = refl
 
-pending-back : (p : Pending) → pending_of (option_byte p) (pending_address p) (pending_instant p) ≡ p
-pending-back Nothing = refl
-pending-back (Sense a t) = refl
+pending-back : (p : Option PendingSense) → pending_of (option_byte p) (pending_address p) (pending_instant p) ≡ p
+pending-back None = refl
+pending-back (Some p) = refl
 
 registers-back : (r : Registers) (since : Time) → registers_of (head_of r) (addresses_of r) (halves_of r since) r.latch ≡ r
 unfolding registers_of head_of addresses_of halves_of
@@ -177,7 +177,7 @@ bytes-encoded s k = packed-small layout (rows_of s) k
 pending-fits : (b a : ℕ) (t : Time) → a < 2 ^ 16 → TimeFits t → PendingFits (pending_of b a t)
 pending-fits b a t h g = by (eqb b 1)
   where
-    by : (c : Bool) → PendingFits (cond c (Sense a t) Nothing)
+    by : (c : Bool) → PendingFits (cond c (Some (record { address = a; at = t })) None)
     by true = (h, g)
     by false = tt
 

@@ -1,14 +1,13 @@
 -- The record's bytes: the state as rows of numbers, one row after the other, each number in as many bytes as its row says, the low byte
 -- first; and which records are refused by 3. Document 01, "Order of checking", the row "record".
 -- Assumes nothing.
-use Rattle.std.specs.Prelude.{ℕ, zero, suc, ◌+◌, ◌*◌, ◌/◌, ◌%◌, List, [], ◌∷◌, ◌++◌, Bool, true, false, cond, not, ◌&&◌, ◌||◌, get_or, ltb, leb, eqb}
+use Rattle.std.specs.Prelude.{ℕ, zero, suc, ◌+◌, ◌*◌, ◌/◌, ◌%◌, List, [], ◌∷◌, ◌++◌, Bool, true, false, cond, not, ◌&&◌, ◌||◌, get_or, ltb, leb, eqb, Option, Some, None}
 use Rattle.time.specs.declared.Time.{Time}
 use Rattle.control.specs.declared.Mode.{Mode}
 use Rattle.control.specs.declared.Mode.TheVariants.{Active, Subactive, Sleep, Subsleep, Watch, Standby}
 use Rattle.control.specs.declared.Supply.{Supply}
 use Rattle.control.specs.declared.Supply.TheVariants.{Normal, Reduced, Stopped}
-use Rattle.control.specs.declared.Pending.{Pending}
-use Rattle.control.specs.declared.Pending.TheVariants.{Nothing, Sense}
+use Rattle.control.specs.declared.PendingSense.{PendingSense}
 use Rattle.registers.specs.declared.Registers.{Registers}
 use Rattle.flash.specs.declared.Flash.{Flash}
 use Rattle.cell.specs.Cell.{at, page_bytes, array_bytes}
@@ -93,20 +92,20 @@ mode_of b =
     (cond (eqb b 1) Subactive (cond (eqb b 2) Sleep (cond (eqb b 3) Subsleep (cond (eqb b 4) Watch Standby))))
 
 -- A pending sense is an option byte, 1, with address and instant; without one all three are 0.
-abbrev pub option_byte : Pending → ℕ
-option_byte Nothing = 0
-option_byte (Sense address instant) = 1
+abbrev pub option_byte : Option PendingSense → ℕ
+option_byte None = 0
+option_byte (Some sense) = 1
 
-abbrev pub pending_address : Pending → ℕ
-pending_address Nothing = 0
-pending_address (Sense address instant) = address
+abbrev pub pending_address : Option PendingSense → ℕ
+pending_address None = 0
+pending_address (Some sense) = sense.address
 
-abbrev pub pending_instant : Pending → Time
-pending_instant Nothing = record { 0 = 0; 1 = 0 }
-pending_instant (Sense address instant) = instant
+abbrev pub pending_instant : Option PendingSense → Time
+pending_instant None = record { 0 = 0; 1 = 0 }
+pending_instant (Some sense) = sense.at
 
-abbrev pub pending_of : ℕ → ℕ → Time → Pending
-pending_of option address instant = cond (eqb option 1) (Sense address instant) Nothing
+abbrev pub pending_of : ℕ → ℕ → Time → Option PendingSense
+pending_of option address instant = cond (eqb option 1) (Some (record { address = address; at = instant })) None
 
 -- an instant's halves stand side by side
 abbrev pub time_of : List ℕ → ℕ → Time

@@ -1,9 +1,8 @@
 -- What the language's types say of a state, and which states are allowed in a record.
 -- Assumes nothing.
-use Rattle.std.specs.Prelude.{◌≡◌, true, List, ℕ, ◌%◌, ◌^◌, ◌<◌, length}
+use Rattle.std.specs.Prelude.{◌≡◌, true, List, ℕ, ◌%◌, ◌^◌, ◌<◌, length, Option, Some, None}
 use Rattle.time.specs.declared.Time.{Time}
-use Rattle.control.specs.declared.Pending.{Pending}
-use Rattle.control.specs.declared.Pending.TheVariants.{Nothing, Sense}
+use Rattle.control.specs.declared.PendingSense.{PendingSense}
 use Rattle.registers.specs.declared.Registers.{Registers}
 use Rattle.flash.specs.declared.Flash.{Flash}
 use Rattle.cell.specs.Cell.{at, page_bytes, array_bytes, pages}
@@ -20,9 +19,9 @@ pub record TimeFits (t : Time) : Type 0 where
   pub whole : t.0 < 2 ^ 64
   pub part : t.1 < 2 ^ 64
 
-abbrev pub PendingFits : Pending → Type 0
-PendingFits Nothing = Unit
-PendingFits (Sense address instant) = (address < 2 ^ 16) × TimeFits instant
+abbrev pub PendingFits : Option PendingSense → Type 0
+PendingFits None = Unit
+PendingFits (Some sense) = (sense.address < 2 ^ 16) × TimeFits sense.at
 
 pub record RegistersFit (r : Registers) : Type 0 where
   pub control : r.control < 256
@@ -45,9 +44,9 @@ pub record Fits (s : Flash) : Type 0 where
 
 -- ---- what is allowed
 
-abbrev pub PendingSound : Pending → Type 0
-PendingSound Nothing = Unit
-PendingSound (Sense address instant) = (address % 4 ≡ 0) × (address < array_bytes)
+abbrev pub PendingSound : Option PendingSense → Type 0
+PendingSound None = Unit
+PendingSound (Some sense) = (sense.address % 4 ≡ 0) × (sense.address < array_bytes)
 
 pub record Sound (s : Flash) : Type 0 where
   pub control : s.registers.control < 128

@@ -9,6 +9,7 @@ use native.Mathlib.Nat.{le_refl}
 use native.Mathlib.Omega.{arith}
 use native.Mathlib.Decide.{dec_lt}
 use lib.ListN.{length, get_or-eq_default}
+use Rattle.std.specs.Prelude.{None}
 use Rattle.time.specs.declared.Time.{Time}
 use Rattle.time.specs.Raw.{raw, instant}
 use Rattle.cell.specs.declared.Sense.TheVariants.{Normal}
@@ -16,7 +17,6 @@ use Rattle.cell.specs.Cell.{FULL, at, bit, first_charge}
 use Rattle.cell.proofs.Rule.{first_charge-full}
 use Rattle.cell.proofs.Sensed.{sensed_byte-lt}
 use Rattle.registers.specs.declared.Registers.{Registers}
-use Rattle.registers.specs.declared.OpenPulse.TheVariants.{Closed}
 use Rattle.registers.specs.declared.Call.{Call}
 use Rattle.registers.specs.Pulses.{pulse, normal}
 use Rattle.registers.specs.Environment.{fresh}
@@ -67,7 +67,7 @@ module _ {k : Chip} {led : Ledger} (a : Agree k led) where
       ∙ normal-same (cell_at (cells k)) (look k.flash.pulse_since led) b (λ j m. a.cells (8 * b + j) (omega arith))
 
   -- and at any later time while no pulse is open
-  pub stored-closed : pulse (registers k) ≡ Closed → (t : Time) → raw k.flash.pulse_since ≤ raw t → (b : ℕ) → b < 49152
+  pub stored-closed : pulse (registers k) ≡ None → (t : Time) → raw k.flash.pulse_since ≤ raw t → (b : ℕ) → b < 49152
       → at k.array b ≡ normal_byte (look t led) b
   stored-closed e t h b l =
       ap (λ (c : Cells). at c.array b) (sym (settle-closed (pulse (registers k)) (registers k).latch k.flash.pulse_since t (cells k) e))

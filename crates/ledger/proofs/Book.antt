@@ -7,6 +7,7 @@ use mathlib.Core.List.{List}
 use Prim.Native.Nat.{ℕ, ◌<◌, ◌≤◌}
 use borrow.Author.Tests.{eqb-true, eq-eqb}
 use lib.Dec.{eqb}
+use Rattle.std.specs.Prelude.{Option, Some, None}
 use Rattle.time.proofs.Bools.{both}
 use Rattle.time.specs.declared.Time.{Time}
 use Rattle.time.specs.Raw.{raw}
@@ -14,8 +15,6 @@ use Rattle.cell.specs.declared.Direction.{Direction}
 use Rattle.cell.specs.declared.Direction.TheVariants.{Program, Erase}
 use Rattle.cell.specs.Cell.{FULL}
 use Rattle.registers.specs.declared.Pulse.{Pulse}
-use Rattle.registers.specs.declared.OpenPulse.{OpenPulse}
-use Rattle.registers.specs.declared.OpenPulse.TheVariants.{Closed, Open}
 use Rattle.settle.specs.Pages.{Cells, cell_at}
 use Rattle.settle.specs.Settling.{exposure, ruled, settled_by, same_direction, same_time, same_pulse}
 use Rattle.settle.proofs.Expose.{Sound, exposures-join, no-exposure, ruled-zero, ruled-add, ruled-full, settled-cell-full}
@@ -36,12 +35,12 @@ same-time s t h =
     let f = eqb-true s.1 t.1 b.1 in
     λ i. record { 0 = e i; 1 = f i }
 
-pub same-pulse : (o o' : OpenPulse) → same_pulse o o' ≡ true → o ≡ o'
+pub same-pulse : (o o' : Option Pulse) → same_pulse o o' ≡ true → o ≡ o'
 unfolding same_pulse
-same-pulse Closed Closed h = refl
-same-pulse Closed (Open q) h = absurd (true≢false (sym h))
-same-pulse (Open p) Closed h = absurd (true≢false (sym h))
-same-pulse (Open p) (Open q) h =
+same-pulse None None h = refl
+same-pulse None (Some q) h = absurd (true≢false (sym h))
+same-pulse (Some p) None h = absurd (true≢false (sym h))
+same-pulse (Some p) (Some q) h =
     let b = both (same_direction p.direction q.direction && eqb p.first q.first && eqb p.pages q.pages) _ h in
     let b' = both (same_direction p.direction q.direction && eqb p.first q.first) _ b.0 in
     let b'' = both (same_direction p.direction q.direction) _ b'.0 in
@@ -49,12 +48,12 @@ same-pulse (Open p) (Open q) h =
     let f = eqb-true p.first q.first b''.1 in
     let n = eqb-true p.pages q.pages b'.1 in
     let r = same-time p.ready q.ready b.1 in
-    λ i. Open (record { direction = d i; first = f i; pages = n i; ready = r i })
+    λ i. Some (record { direction = d i; first = f i; pages = n i; ready = r i })
 
-pub pulse-same : (o : OpenPulse) → same_pulse o o ≡ true
+pub pulse-same : (o : Option Pulse) → same_pulse o o ≡ true
 unfolding same_pulse
-pulse-same Closed = refl
-pulse-same (Open p) =
+pulse-same None = refl
+pulse-same (Some p) =
     rw (eq-eqb p.first p.first refl, eq-eqb p.pages p.pages refl, eq-eqb p.ready.0 p.ready.0 refl, eq-eqb p.ready.1 p.ready.1 refl)
     (by p.direction)
   where
@@ -64,36 +63,36 @@ pulse-same (Open p) =
 
 -- ---- booking and settling
 
-pub settle-closed : (o : OpenPulse) (latch : List ℕ) (since t : Time) (c : Cells) → o ≡ Closed → settled_by o latch since t c ≡ c
+pub settle-closed : (o : Option Pulse) (latch : List ℕ) (since t : Time) (c : Cells) → o ≡ None → settled_by o latch since t c ≡ c
 unfolding settled_by
 settle-closed o latch since t c e = rw e
 
-pub book-full : (o : OpenPulse) (latch : List ℕ) (opened t : Time) (charge : ℕ → ℕ) (i : ℕ) → charge i ≤ FULL
+pub book-full : (o : Option Pulse) (latch : List ℕ) (opened t : Time) (charge : ℕ → ℕ) (i : ℕ) → charge i ≤ FULL
     → booked o latch opened t charge i ≤ FULL
 unfolding booked
-book-full Closed latch opened t charge i h = h
-book-full (Open p) latch opened t charge i h = ruled-full p latch (exposure p opened t) i (charge i) h
+book-full None latch opened t charge i h = h
+book-full (Some p) latch opened t charge i h = ruled-full p latch (exposure p opened t) i (charge i) h
 
-pub book-now : (o : OpenPulse) (latch : List ℕ) (t : Time) (charge : ℕ → ℕ) (i : ℕ) → charge i ≤ FULL
+pub book-now : (o : Option Pulse) (latch : List ℕ) (t : Time) (charge : ℕ → ℕ) (i : ℕ) → charge i ≤ FULL
     → booked o latch t t charge i ≡ charge i
 unfolding booked
-book-now Closed latch t charge i h = refl
-book-now (Open p) latch t charge i h = rw (no-exposure p t) (ruled-zero p latch i (charge i) h)
+book-now None latch t charge i h = refl
+book-now (Some p) latch t charge i h = rw (no-exposure p t) (ruled-zero p latch i (charge i) h)
 
-pub settle-book : (o : OpenPulse) (latch : List ℕ) (opened since t : Time) (charge : ℕ → ℕ) (c : Cells) → Sound c → raw opened ≤ raw since
+pub settle-book : (o : Option Pulse) (latch : List ℕ) (opened since t : Time) (charge : ℕ → ℕ) (c : Cells) → Sound c → raw opened ≤ raw since
     → raw since ≤ raw t → (i : ℕ) → i < 393216 → cell_at c i ≡ booked o latch opened since charge i
     → cell_at (settled_by o latch since t c) i ≡ booked o latch opened t charge i
 unfolding booked settled_by
-settle-book Closed latch opened since t charge c s h k i l e = e
-settle-book (Open p) latch opened since t charge c s h k i l e =
+settle-book None latch opened since t charge c s h k i l e = e
+settle-book (Some p) latch opened since t charge c s h k i l e =
     settled-cell-full latch since t c p s.slots i l (s.full i l)
     ∙ ap (ruled p latch (exposure p since t) i) e
     ∙ ruled-add p latch (exposure p opened since) (exposure p since t) i (charge i)
     ∙ ap (λ (n : ℕ). ruled p latch n i (charge i)) (exposures-join p opened since t h k)
 
 -- the same pulse with the same latch books the same
-pub book-kept : (o o' : OpenPulse) (latch latch' : List ℕ) → o' ≡ o → ((p : Pulse) → o ≡ Open p → latch' ≡ latch)
+pub book-kept : (o o' : Option Pulse) (latch latch' : List ℕ) → o' ≡ o → ((p : Pulse) → o ≡ Some p → latch' ≡ latch)
     → (opened t : Time) (charge : ℕ → ℕ) (i : ℕ) → booked o latch opened t charge i ≡ booked o' latch' opened t charge i
 unfolding booked
-book-kept Closed o' latch latch' e h opened t charge i = rw e
-book-kept (Open p) o' latch latch' e h opened t charge i = rw (e, h p refl)
+book-kept None o' latch latch' e h opened t charge i = rw e
+book-kept (Some p) o' latch latch' e h opened t charge i = rw (e, h p refl)

@@ -4,11 +4,10 @@ use mathlib.Core.Path.{◌≡◌, refl, ap, sym, ◌∙◌}
 use mathlib.Core.Bool.{Bool, true, false, cond, not}
 use mathlib.Core.List.{List, [], ◌++◌, append-nil}
 use Prim.Native.Nat.{ℕ}
+use Rattle.std.specs.Prelude.{Option, Some, None}
 use Rattle.time.specs.declared.Time.{Time}
 use Rattle.control.specs.Verify.{sense_due}
 use Rattle.registers.specs.declared.Registers.{Registers}
-use Rattle.registers.specs.declared.OpenPulse.{OpenPulse}
-use Rattle.registers.specs.declared.OpenPulse.TheVariants.{Closed, Open}
 use Rattle.registers.specs.declared.Call.TheVariants.{Read8, Read16}
 use Rattle.registers.specs.Access.{settled}
 use Rattle.registers.specs.Pulses.{pulse, normal, tripped, read8}
@@ -16,12 +15,13 @@ use Rattle.registers.specs.Calls.{next, settles, ending}
 use Rattle.registers.proofs.Laws.{settled-pulse, settled-due, tripped-closed, read8-again, read16-read8}
 use Rattle.settle.specs.Settling.{settled_by, ended, end_words, same_pulse, sensed_by}
 use Rattle.settle.proofs.Loop.{changes-same}
+use Rattle.registers.specs.declared.Pulse.{Pulse}
 use Rattle.flash.specs.Chip.{Chip, Step, registers, step_if, step}
 
 -- ---- what a byte read that is not served leaves in the registers
 
 module _ (now : Time) (r : Registers) (n : normal now r ≡ false) where
-  read-closed : pulse (read8 now r) ≡ Closed
+  read-closed : pulse (read8 now r) ≡ None
   unfolding read8
   read-closed = rw n (rw (settled-pulse now r) at (tripped-closed now (settled now r)))
 
@@ -29,9 +29,9 @@ module _ (now : Time) (r : Registers) (n : normal now r ≡ false) where
   unfolding read8
   read-due = rw n (by (pulse r))
     where
-      by : (o : OpenPulse) → sense_due (tripped o now (settled now r)).verify_pending (tripped o now (settled now r)).supply now ≡ false
-      by Closed = settled-due now r
-      by (Open p) = settled-due now r
+      by : (o : Option Pulse) → sense_due (tripped o now (settled now r)).verify_pending (tripped o now (settled now r)).supply now ≡ false
+      by None = settled-due now r
+      by (Some p) = settled-due now r
 
 -- ---- the second read
 
@@ -39,7 +39,7 @@ abbrev nothing : Chip → Step
 nothing k = record { chip = k; events = [] }
 
 -- settled to now, without a pulse or a sense that is due, a read that leaves the registers leaves the whole chip
-read-nothing : (b : ℕ) (now : Time) (k : Chip) → k.flash.pulse_since ≡ now → pulse (registers k) ≡ Closed
+read-nothing : (b : ℕ) (now : Time) (k : Chip) → k.flash.pulse_since ≡ now → pulse (registers k) ≡ None
     → sense_due (registers k).verify_pending (registers k).supply now ≡ false → read8 now (registers k) ≡ registers k
     → step (Read8 b) now k ≡ nothing k
 unfolding step step_if next settled_by sensed_by end_words same_pulse
@@ -56,9 +56,9 @@ word-ends : (a : ℕ) (now : Time) (r : Registers) → end_words (Read16 a) now 
 unfolding end_words next ended ending
 word-ends a now r = rw (read16-read8 now r) (ap (λ (es : List ℕ). cond (same_pulse (pulse r) (pulse (read8 now r))) [] es) (by (pulse r)))
   where
-    by : (o : OpenPulse) → ended (Read16 a) (read8 now r).control o ≡ ended (Read8 a) (read8 now r).control o
-    by Closed = refl
-    by (Open p) = refl
+    by : (o : Option Pulse) → ended (Read16 a) (read8 now r).control o ≡ ended (Read8 a) (read8 now r).control o
+    by None = refl
+    by (Some p) = refl
 
 -- and does the same to the chip
 word_byte : (a : ℕ) (now : Time) (k : Chip) → step (Read16 a) now k ≡ step (Read8 a) now k

@@ -12,8 +12,8 @@ use Rattle.time.specs.declared.Time.{Time}
 use Rattle.time.specs.Raw.{raw, later, after}
 use Rattle.control.specs.declared.Mode.{Mode}
 use Rattle.control.specs.declared.Supply.{Supply}
-use Rattle.control.specs.declared.Pending.{Pending}
-use Rattle.control.specs.declared.Pending.TheVariants.{Nothing, Sense}
+use Rattle.control.specs.declared.PendingSense.{PendingSense}
+use Rattle.std.specs.Prelude.{Option, Some, None}
 use Rattle.cell.specs.declared.Direction.{Direction}
 use Rattle.cell.specs.declared.Direction.TheVariants.{Program, Erase}
 use Rattle.control.specs.Bits.{FENR, FLMCR1, FLPWCR, EBR1, SWE, ESU, PSU, EV, PV, E, P, has, low, falls, rises, verifies, control_value, erase_value, bit_count}
@@ -21,8 +21,6 @@ use Rattle.control.specs.Waits.{reached, raised, renewed, recovery_after, verify
 use Rattle.control.specs.Verify.{sense_due}
 use Rattle.control.specs.Supplies.{supplied, starts, supply_in}
 use Rattle.registers.specs.declared.Registers.{Registers}
-use Rattle.registers.specs.declared.OpenPulse.{OpenPulse}
-use Rattle.registers.specs.declared.OpenPulse.TheVariants.{Closed, Open}
 use Rattle.registers.specs.declared.Call.{Call}
 use Rattle.registers.specs.declared.Call.TheVariants.{WriteRegister, Write8, Read8, Read16, Protect, Reset, PowerOff, Environment}
 use Rattle.registers.specs.Fields.{with_erase, with_verify_pending}
@@ -31,6 +29,7 @@ use Rattle.registers.specs.Latch.{takes_data, latched, data_taken, data_write, w
 use Rattle.registers.specs.Pulses.{pulse, is_open, normal, tripped, protect, read8}
 use Rattle.registers.specs.Environment.{blank_latch, cleared, reset, power_off, unchanged, clears, environment_set, environment}
 use Rattle.registers.specs.Calls.{next}
+use Rattle.registers.specs.declared.Pulse.{Pulse}
 use Rattle.registers.proofs.Laws.{read16-read8}
 
 -- what is asked of each sort of value
@@ -40,10 +39,10 @@ pub record Ask : Type 1 where
   pub latch : List ℕ → Type 0
   pub page : ℕ → Type 0
   pub time : Time → Type 0
-  pub pending : Pending → Type 0
+  pub pending : Option PendingSense → Type 0
 
 -- and that these values meet it
-pub record Held (q : Ask) (c e : ℕ) (l : List ℕ) (p : ℕ) (t sw pr er rc vr : Time) (n : Pending) : Type 0 where
+pub record Held (q : Ask) (c e : ℕ) (l : List ℕ) (p : ℕ) (t sw pr er rc vr : Time) (n : Option PendingSense) : Type 0 where
   pub control : q.control c
   pub erase : q.erase e
   pub latch : q.latch l
@@ -68,13 +67,13 @@ pub record Anew (q : Ask) (now : Time) : Type 0 where
   pub page : q.page 0
   pub present : q.time now
   pub wait : (n : ℕ) → n < 1000000 → q.time (after now n)
-  pub pending : q.pending Nothing
+  pub pending : q.pending None
 
 -- and by its arguments
 pub record Data (q : Ask) (a v : ℕ) : Type 0 where
   pub latch : (xs : List ℕ) (i : ℕ) → q.latch xs → q.latch (set xs i v)
   pub page : q.page (a / 128 * 128)
-  pub pending : (t : Time) → q.time t → q.pending (Sense (a / 4 * 4) t)
+  pub pending : (t : Time) → q.time t → q.pending (Some (record { address = a / 4 * 4; at = t }))
 
 abbrev pub Given : Ask → Call → Type 0
 Given q (WriteRegister a v) = q.erase v
@@ -115,13 +114,13 @@ module _ (q : Ask) (now : Time) (s : Anew q now) where
 
   -- ---- rules
 
-  pending-held : (r : Registers) (n : Pending) → q.pending n → HeldBy q r → HeldBy q (with_verify_pending n r)
+  pending-held : (r : Registers) (n : Option PendingSense) → q.pending n → HeldBy q r → HeldBy q (with_verify_pending n r)
   pending-held r n k h =
       record { control = h.control; erase = h.erase; latch = h.latch; page = h.page; ready = h.ready; swe_ready = h.swe_ready; program_ready = h.program_ready; erase_ready = h.erase_ready; recovery = h.recovery; verify_ready = h.verify_ready; pending = k }
 
   settled-held : (r : Registers) → HeldBy q r → HeldBy q (settled now r)
   unfolding settled
-  settled-held r h = either (HeldBy q) (sense_due r.verify_pending r.supply now) (pending-held r Nothing s.pending h) h
+  settled-held r h = either (HeldBy q) (sense_due r.verify_pending r.supply now) (pending-held r None s.pending h) h
 
   control-held : (v : ℕ) (r : Registers) → HeldBy q r → HeldBy q (control_set (control_value v) now r)
   unfolding control_set
@@ -167,9 +166,9 @@ module _ (q : Ask) (now : Time) (s : Anew q now) where
   trip-short Program = omega arith
   trip-short Erase = omega arith
 
-  tripped-held : (o : OpenPulse) (r : Registers) → HeldBy q r → HeldBy q (tripped o now r)
-  tripped-held Closed r h = h
-  tripped-held (Open p) r h =
+  tripped-held : (o : Option Pulse) (r : Registers) → HeldBy q r → HeldBy q (tripped o now r)
+  tripped-held None r h = h
+  tripped-held (Some p) r h =
       record { control = h.control; erase = h.erase; latch = h.latch; page = h.page; ready = h.ready; swe_ready = h.swe_ready; program_ready = h.program_ready; erase_ready = h.erase_ready; recovery = later-held h.recovery (s.wait (trip_wait p.direction) (trip-short p.direction)); verify_ready = h.verify_ready; pending = h.pending }
 
   read_held : (r : Registers) → HeldBy q r → HeldBy q (read8 now r)

@@ -10,12 +10,11 @@ use native.Mathlib.Omega.{arith}
 use borrow.Author.Tests.{eqb-true, eq-eqb}
 use lib.Dec.{eqb}
 use lib.ListN.{length, set}
+use Rattle.std.specs.Prelude.{Option, Some, None}
 use Rattle.time.specs.declared.Time.{Time}
 use Rattle.cell.specs.Cell.{at}
 use Rattle.registers.specs.declared.Registers.{Registers}
 use Rattle.registers.specs.declared.Pulse.{Pulse}
-use Rattle.registers.specs.declared.OpenPulse.{OpenPulse}
-use Rattle.registers.specs.declared.OpenPulse.TheVariants.{Closed, Open}
 use Rattle.registers.specs.declared.Call.{Call}
 use Rattle.registers.specs.declared.Ending.{Ending}
 use Rattle.registers.specs.declared.Ending.TheVariants.{Completed, Interrupted}
@@ -170,10 +169,10 @@ end-sort e p h = go (eqb p.pages 0)
     go true = none
     go false = more (end-word e (p.first * 128) (p.pages * 128) (omega arith) (omega arith)) none
 
-ended-sort : (c : Call) (control : ℕ) (o : OpenPulse) → range_end o ≤ 384 → Sort false (ended c control o)
+ended-sort : (c : Call) (control : ℕ) (o : Option Pulse) → range_end o ≤ 384 → Sort false (ended c control o)
 unfolding ended
-ended-sort c control Closed h = none
-ended-sort c control (Open p) h = end-sort (ending p.direction c control) p h
+ended-sort c control None h = none
+ended-sort c control (Some p) h = end-sort (ending p.direction c control) p h
 
 module _ (c : Call) (now : Time) (r : Registers) (inside : range_end (pulse r) ≤ 384) where
   end_words-sort : Sort false (end_words c now r)

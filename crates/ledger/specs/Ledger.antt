@@ -1,17 +1,16 @@
 -- The ledger: what each cell's charge is, worked out from the calls alone. Document 01, "The ledger". It has no array, no slots and no
 -- last settling; the register rules, the rule of one cell and the exposure are those of the chip.
 -- Assumes nothing.
-use Rattle.std.specs.Prelude.{ℕ, ◌/◌, ◌%◌, Bool, true, false, List, [], ◌++◌}
+use Rattle.std.specs.Prelude.{ℕ, ◌/◌, ◌%◌, Bool, true, false, List, [], ◌++◌, Option, Some, None}
 use Rattle.time.specs.declared.Time.{Time}
 use Rattle.time.specs.Raw.{instant}
 use Rattle.cell.specs.Cell.{at, bit, first_charge}
 use Rattle.registers.specs.declared.Registers.{Registers}
-use Rattle.registers.specs.declared.OpenPulse.{OpenPulse}
-use Rattle.registers.specs.declared.OpenPulse.TheVariants.{Closed, Open}
 use Rattle.registers.specs.declared.Call.{Call}
 use Rattle.registers.specs.Pulses.{pulse}
 use Rattle.registers.specs.Environment.{fresh}
 use Rattle.registers.specs.Calls.{next}
+use Rattle.registers.specs.declared.Pulse.{Pulse}
 use Rattle.settle.specs.Settling.{exposure, ruled, same_pulse, end_words}
 
 -- Every register, latch, supply and time field; each cell's charge; the instant at which the open pulse was opened; and the end events
@@ -23,9 +22,9 @@ pub record Ledger : Type 0 where
   pub ends : List ℕ
 
 -- A pulse is booked once, from the later of opening and ready to now, 0 if negative.
-unfoldable pub booked : OpenPulse → List ℕ → Time → Time → (ℕ → ℕ) → ℕ → ℕ
-booked Closed latch opened now charge i = charge i
-booked (Open p) latch opened now charge i = ruled p latch (exposure p opened now) i (charge i)
+unfoldable pub booked : Option Pulse → List ℕ → Time → Time → (ℕ → ℕ) → ℕ → ℕ
+booked None latch opened now charge i = charge i
+booked (Some p) latch opened now charge i = ruled p latch (exposure p opened now) i (charge i)
 
 -- Looking at t books the open pulse to t and keeps nothing.
 unfoldable pub look : Time → Ledger → ℕ → ℕ

@@ -9,8 +9,8 @@ use lib.Dec.{eqb}
 use lib.ListN.{length}
 use borrow.Author.Tests.{eqb-true}
 use Rattle.cell.specs.Cell.{array_bytes, array_cells}
-use Rattle.control.specs.declared.Pending.{Pending}
-use Rattle.control.specs.declared.Pending.TheVariants.{Nothing, Sense}
+use Rattle.control.specs.declared.PendingSense.{PendingSense}
+use Rattle.std.specs.Prelude.{Option, Some, None}
 use Rattle.settle.specs.Settling.{sense_address}
 use Rattle.refusal.specs.declared.Refusal.{Refusal}
 use Rattle.refusal.specs.Refusal.{Answers}
@@ -40,9 +40,9 @@ sizes-fit bytes array charges e = by (eqb bytes record_length) (eqb array array_
     by true false c x y z h = absurd (true≢false h)
     by false b c x y z h = absurd (true≢false h)
 
-sense_inside : (p : Pending) → PendingSound p → sense_address p + 4 ≤ array_bytes
-sense_inside Nothing s = omega arith
-sense_inside (Sense address instant) s = omega (arith, s.0, s.1)
+sense_inside : (p : Option PendingSense) → PendingSound p → sense_address p + 4 ≤ array_bytes
+sense_inside None s = omega arith
+sense_inside (Some p) s = omega (arith, s.0, s.1)
 
 pub fitted : (m : Memory) → Sizes (length m.bytes) (length m.array) (length m.charges) → accepted m.bytes ≡ true → Fit (chip_in m)
 fitted m s a =

@@ -8,6 +8,7 @@ use native.Mathlib.Omega.{arith}
 use lib.Dec.{leb, ltb, lit<}
 use lib.ListN.{length}
 use borrow.Author.Tests.{leb-false, lt-ltb}
+use Rattle.std.specs.Prelude.{Option}
 use Rattle.refusal.specs.declared.Refusal.{Refusal}
 use Rattle.refusal.specs.Refusal.{number}
 use Rattle.refusal.proofs.Outcomes.{number-some}
@@ -15,7 +16,6 @@ use Rattle.time.specs.declared.Time.{Time}
 use Rattle.time.specs.Raw.{BeforeLastSecond}
 use Rattle.registers.specs.declared.Call.{Call}
 use Rattle.registers.specs.declared.Call.TheVariants as call
-use Rattle.registers.specs.declared.OpenPulse.{OpenPulse}
 use Rattle.registers.specs.Pulses.{pulse}
 use Rattle.registers.specs.Calls.{settles}
 use Rattle.flash.specs.declared.Flash.{Flash}
@@ -24,6 +24,7 @@ use Rattle.flash.specs.Chip.{placed, answer_limit, Performed}
 use Rattle.layout.specs.Layout.{encoded, decoded}
 use Rattle.lent.specs.declared.Request.{Request}
 use Rattle.lent.specs.declared.Request.TheVariants.{WriteRegister, Write8, Read8, Read16, Protect, Reset, PowerOff, Environment}
+use Rattle.registers.specs.declared.Pulse.{Pulse}
 use Rattle.lent.proofs.Lines.{given-first, given-after}
 use Rattle.lent.specs.Looked.{memory_checks, memory_refusal}
 use Rattle.lent.specs.Memory.{Memory, chip_in, last_second, too_early, too_few_words}
@@ -56,7 +57,7 @@ pub record Passes (q : Request) (now : Time) (words : ℕ) (s : Flash) : Type 0 
   pub in_time : BeforeLastSecond now
   pub enough : settles (call_of q) now s.registers ≡ true → 1 ≤ range_bytes (pulse s.registers) → range_bytes (pulse s.registers) < words
 
-words-enough : (a : Bool) (o : OpenPulse) (n : ℕ) → (a && too_few_words o n) ≡ false → a ≡ true → 1 ≤ range_bytes o → range_bytes o < n
+words-enough : (a : Bool) (o : Option Pulse) (n : ℕ) → (a && too_few_words o n) ≡ false → a ≡ true → 1 ≤ range_bytes o → range_bytes o < n
 words-enough false o n e h g = absurd (true≢false (sym h))
 words-enough true o n e h g = leb-false n (range_bytes o) (by (ltb 0 (range_bytes o)) (leb n (range_bytes o)) (lt-ltb 0 (range_bytes o) g) e)
   where

@@ -1,13 +1,13 @@
 -- Lent memory, and the refusals of document 01's table as checks in its order: the first that fails gives its number.
 -- Assumes nothing.
-use Rattle.std.specs.Prelude.{ℕ, ◌-◌, ◌^◌, Bool, cond, not, ◌&&◌, ◌||◌, List, [], ◌∷◌, leb, ltb, eqb, length}
+use Rattle.std.specs.Prelude.{ℕ, ◌-◌, ◌^◌, Bool, cond, not, ◌&&◌, ◌||◌, List, [], ◌∷◌, leb, ltb, eqb, length, Option}
 use Rattle.time.specs.declared.Time.{Time}
 use Rattle.time.specs.Raw.{raw}
 use Rattle.cell.specs.Cell.{array_bytes, array_cells}
-use Rattle.registers.specs.declared.OpenPulse.{OpenPulse}
 use Rattle.flash.specs.declared.Flash.{Flash}
 use Rattle.settle.specs.Settling.{range_bytes}
 use Rattle.flash.specs.Chip.{Chip}
+use Rattle.registers.specs.declared.Pulse.{Pulse}
 use Rattle.layout.specs.Layout.{record_length, decoded, encoded}
 
 -- The record's bytes, the stored array, the charge store.
@@ -70,5 +70,5 @@ unfoldable pub time_refusal : Time → Flash → ℕ
 time_refusal t s = first_given (check 5 (last_second t) ∷ check 6 (too_early t s) ∷ [])
 
 -- 7: pulse open with range of k > 0 bytes and fewer than k+1 words
-abbrev pub too_few_words : OpenPulse → ℕ → Bool
+abbrev pub too_few_words : Option Pulse → ℕ → Bool
 too_few_words pulse words = ltb 0 (range_bytes pulse) && leb words (range_bytes pulse)

@@ -11,7 +11,7 @@ use coding::state::mode_of;
 use flash::Flash;
 use layout::RECORD_LEN;
 use refusal::Refusal;
-use registers::{Call, OpenPulse};
+use registers::{Call, Pulse};
 use time::Time;
 
 // Whether lent memory has not its lengths.
@@ -64,12 +64,12 @@ pub fn last_second(time: Time) -> bool
     u64::MAX <= time.0
 }
 
-fn too_few_words(pulse: OpenPulse, words: usize) -> bool
+fn too_few_words(pulse: Option<Pulse>, words: usize) -> bool
     ensures { result ≡ too_few_words pulse words }
 {
     match pulse {
-        OpenPulse::Closed => false,
-        OpenPulse::Open(p) => {
+        None => false,
+        Some(p) => {
             let range = p.pages as usize * PAGE;
             (0 < range) & (words <= range)
         }

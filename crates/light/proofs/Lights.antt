@@ -9,10 +9,9 @@ use lib.Dec.{eqb, ltb, lit<}
 use Rattle.time.proofs.Bools.{both}
 use Rattle.time.specs.declared.Time.{Time}
 use Rattle.time.specs.Raw.{raw}
-use Rattle.control.specs.declared.Pending.TheVariants.{Nothing}
+use Rattle.std.specs.Prelude.{None, Some}
 use Rattle.control.specs.Bits.{FENR, SWE, ESU, PSU, E, P, has, low}
 use Rattle.registers.specs.declared.Registers.{Registers}
-use Rattle.registers.specs.declared.OpenPulse.TheVariants.{Closed, Open}
 use Rattle.registers.specs.declared.Call.TheVariants as call
 use Rattle.registers.specs.Pulses.{program_pulse, erase_pulse, pulse}
 use Rattle.registers.specs.Access.{write_register}
@@ -42,13 +41,13 @@ and-false true = refl
 and-false false = refl
 
 -- registers whose control opens no pulse have none
-pub closed-pulse : (r : Registers) → opens (may_pulse r) r.control ≡ false → pulse r ≡ Closed
+pub closed-pulse : (r : Registers) → opens (may_pulse r) r.control ≡ false → pulse r ≡ None
 unfolding pulse
 closed-pulse r e =
     by (may_pulse r) (has r.control SWE) (eqb (low r.control) P && has r.control PSU) (eqb (low r.control) E && has r.control ESU) e
   where
     by : (m s p q : Bool) → (m && s && (p || q)) ≡ false
-        → cond (m && s) (cond p (Open (program_pulse r)) (cond q (Open (erase_pulse r)) Closed)) Closed ≡ Closed
+        → cond (m && s) (cond p (Some (program_pulse r)) (cond q (Some (erase_pulse r)) None)) None ≡ None
     by true true false false h = refl
     by true true false true h = absurd (true≢false h)
     by true true true q h = absurd (true≢false h)
@@ -72,7 +71,7 @@ light-says may control since what t e =
 
 -- ---- one write
 
-module _ (a v : ℕ) (t : Time) (k : Chip) (shut : pulse (registers k) ≡ Closed) (nothing : (registers k).verify_pending ≡ Nothing) where
+module _ (a v : ℕ) (t : Time) (k : Chip) (shut : pulse (registers k) ≡ None) (nothing : (registers k).verify_pending ≡ None) where
   abbrev written : Flash
   written =
       record { registers = write_register a v t (registers k); pulse_since = since_after (registers k).enabled a k.flash.pulse_since t; sensed = k.flash.sensed; indices = k.flash.indices }

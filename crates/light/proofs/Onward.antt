@@ -7,7 +7,7 @@ use native.Mathlib.Omega.{arith}
 use lib.ListN.{length}
 use Rattle.time.specs.declared.Time.{Time}
 use Rattle.cell.specs.Cell.{at}
-use Rattle.control.specs.declared.Pending.TheVariants.{Nothing}
+use Rattle.std.specs.Prelude.{None}
 use Rattle.registers.specs.Access.{write_register}
 use Rattle.flash.specs.declared.Flash.{Flash}
 use Rattle.lent.specs.declared.Request.TheVariants.{WriteRegister}
@@ -21,7 +21,7 @@ use Rattle.light.proofs.Lights.{closed-pulse, Says, light-says, light-performed,
 use Rattle.listing.proofs.Steps.{step-on}
 
 -- the settings of a state with nothing pending are in it
-pub lit-start : (f : Flash) → f.registers.verify_pending ≡ Nothing → lit f (settings_of f.registers) f.pulse_since ≡ f
+pub lit-start : (f : Flash) → f.registers.verify_pending ≡ None → lit f (settings_of f.registers) f.pulse_since ≡ f
 lit-start f e =
     λ i. record { registers = record { control = f.registers.control; error = f.registers.error; erase = f.registers.erase; enabled = f.registers.enabled; power_down_disabled = f.registers.power_down_disabled; latch = f.registers.latch; page = f.registers.page; supply = f.registers.supply; oscillator = f.registers.oscillator; mode = f.registers.mode; «module» = f.registers.«module»; ready = f.registers.ready; swe_ready = f.registers.swe_ready; program_ready = f.registers.program_ready; erase_ready = f.registers.erase_ready; recovery = f.registers.recovery; verify_ready = f.registers.verify_ready; verify_pending = sym e i }; pulse_since = f.pulse_since; sensed = f.sensed; indices = f.indices }
 

@@ -1,10 +1,9 @@
 -- Light calls: register writes that are accepted while no sense is pending and no pulse is open. They change few of the registers, and
 -- nothing outside of them but the last settling.
 -- Assumes nothing.
-use Rattle.std.specs.Prelude.{ℕ, ◌^◌, ◌≡◌, Bool, cond, not, ◌&&◌, ◌||◌, eqb, ltb}
+use Rattle.std.specs.Prelude.{ℕ, ◌^◌, ◌≡◌, Bool, cond, not, ◌&&◌, ◌||◌, eqb, ltb, None}
 use Rattle.time.specs.declared.Time.{Time}
 use Rattle.time.specs.Raw.{raw}
-use Rattle.control.specs.declared.Pending.TheVariants.{Nothing}
 use Rattle.control.specs.Bits.{FENR, SWE, ESU, PSU, E, P, has, low}
 use Rattle.control.specs.Supplies.{is_normal}
 use Rattle.registers.specs.declared.Registers.{Registers}
@@ -20,7 +19,7 @@ settings_of r =
 -- registers with these settings and nothing pending
 abbrev pub with_settings : Settings → Registers → Registers
 with_settings s r =
-    record { control = s.control; error = r.error; erase = s.erase; enabled = s.enabled; power_down_disabled = s.power_down_disabled; latch = r.latch; page = r.page; supply = r.supply; oscillator = r.oscillator; mode = r.mode; «module» = r.«module»; ready = r.ready; swe_ready = s.swe_ready; program_ready = s.program_ready; erase_ready = s.erase_ready; recovery = s.recovery; verify_ready = s.verify_ready; verify_pending = Nothing }
+    record { control = s.control; error = r.error; erase = s.erase; enabled = s.enabled; power_down_disabled = s.power_down_disabled; latch = r.latch; page = r.page; supply = r.supply; oscillator = r.oscillator; mode = r.mode; «module» = r.«module»; ready = r.ready; swe_ready = s.swe_ready; program_ready = s.program_ready; erase_ready = s.erase_ready; recovery = s.recovery; verify_ready = s.verify_ready; verify_pending = None }
 
 -- settings t are what a rule makes of settings s, whatever the other registers
 abbrev pub Changed : (Registers → Registers) → Settings → Settings → Type 0

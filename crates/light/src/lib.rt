@@ -4,13 +4,11 @@
 pub mod writing;
 
 ghost use Rattle.std.specs.Prelude.{◌≡◌, cond, ◌*◌, ◌≤◌, length};
-ghost use Rattle.control.specs.declared.Pending.TheVariants.{Nothing};
 ghost use Rattle.listing.specs.Held.{Onward};
 ghost use Rattle.light.specs.Writes.{lit, may_pulse, opens, is_light, since_after};
 
 use crate::writing::{settings_of, with_settings, write};
 use bits::{E, ESU, FENR, P, PSU, SWE, has};
-use control::Pending;
 use control::supplies::supply_number;
 use flash::Flash;
 use lent::checking::last_second;
@@ -92,7 +90,7 @@ fn lit(flash: Flash, settings: Settings, since: Time) -> Flash
 }
 
 fn run_writes(flash: Flash, calls: &[u64], from: usize, end: usize) -> Ahead
-    requires { (3 * end ≤ length calls.now) × (flash.registers.verify_pending ≡ Nothing) }
+    requires { (3 * end ≤ length calls.now) × (flash.registers.verify_pending ≡ None) }
     ensures { Onward end calls.now from flash result.done result.flash }
 {
     let may = may_pulse(flash.registers);
@@ -128,8 +126,8 @@ pub fn run_light(flash: Flash, calls: &[u64], from: usize, end: usize) -> Ahead
     let registers = flash.registers;
     let pending = registers.verify_pending;
     match pending {
-        Pending::Nothing => run_writes(flash, calls, from, end),
-        Pending::Sense(_, _) => Ahead {
+        None => run_writes(flash, calls, from, end),
+        Some(_) => Ahead {
             flash: flash,
             done: from,
         },

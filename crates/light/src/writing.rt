@@ -9,7 +9,6 @@ use crate::Settings;
 use bits::{
     E, ESU, EV, FENR, FLAG, P, PSU, PV, SWE, control_value, erase_after, erase_value, falls, has,
 };
-use control::Pending;
 use registers::Registers;
 use time::Time;
 use waits::{
@@ -57,7 +56,7 @@ pub fn with_settings(settings: Settings, registers: Registers) -> Registers
         erase_ready: erase_ready,
         recovery: recovery,
         verify_ready: verify_ready,
-        verify_pending: Pending::Nothing,
+        verify_pending: None,
         ..registers
     }
 }

@@ -12,7 +12,7 @@ ghost use Rattle.flash.specs.Looking.{exposed_by, charge_at};
 use cell::{Direction, PAGE, PAGE_CELLS};
 use charging::{bit, expose};
 use flash::Flash;
-use registers::{OpenPulse, Pulse, Registers};
+use registers::{Pulse, Registers};
 use settle::pages::cell_at;
 use time::{Duration, Time};
 
@@ -29,7 +29,7 @@ pub fn view_at(registers: Registers, since: Time, time: Time) -> View
 {
     let open = registers.pulse();
     match open {
-        OpenPulse::Closed => View {
+        None => View {
             pulse: Pulse {
                 direction: Direction::Erase,
                 first: 0,
@@ -38,7 +38,7 @@ pub fn view_at(registers: Registers, since: Time, time: Time) -> View
             },
             exposure: Duration(0, 0),
         },
-        OpenPulse::Open(p) => {
+        Some(p) => {
             let ready = p.ready;
             View {
                 pulse: p,

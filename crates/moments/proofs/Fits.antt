@@ -11,7 +11,7 @@ use lib.ListN.{length, drop}
 use lib.Pow.{shr_lt}
 use Rattle.time.specs.declared.Time.{Time}
 use Rattle.time.specs.declared.Duration.{Duration}
-use Rattle.time.specs.declared.Sum.TheVariants as sum
+use Rattle.std.specs.Prelude.{Some, None}
 use Rattle.time.specs.Raw.{raw, span, instant, duration, micros, plus, added}
 use Rattle.time.proofs.Bools.{either}
 use Rattle.reason.specs.declared.Reason.{Reason}
@@ -91,7 +91,7 @@ sum-in : (t : Time) (d : Duration) → MomentIn (in_range (added t d))
 unfolding added plus instant
 sum-in t d = by (ltb (raw t + span d) (2 ^ 128)) refl
   where
-    by : (b : Bool) → ltb (raw t + span d) (2 ^ 128) ≡ b → MomentIn (in_range (cond b (sum.At (plus t d)) sum.Overflow))
+    by : (b : Bool) → ltb (raw t + span d) (2 ^ 128) ≡ b → MomentIn (in_range (cond b (Some (plus t d)) None))
     by true e = let small = ltb-true (raw t + span d) (2 ^ 128) e in at (plus t d) (shr_lt 64 64 small) (omega arith)
     by false e = wrong
 

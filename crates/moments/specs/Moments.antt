@@ -1,11 +1,10 @@
 -- A time as a history writes it: seconds, whole or with one to six decimals, or exactly, as SECONDS:FRACTION with the fraction in
 -- raw units; and after a `+` any of these as the length since the time of the line before.
 -- Assumes nothing.
-use Rattle.std.specs.Prelude.{ℕ, suc, ◌+◌, ◌-◌, ◌*◌, ◌/◌, ◌^◌, List, [], ◌∷◌, Bool, false, cond, ◌&&◌, length, take, drop, ltb, eqb}
+use Rattle.std.specs.Prelude.{ℕ, suc, ◌+◌, ◌-◌, ◌*◌, ◌/◌, ◌^◌, List, [], ◌∷◌, Bool, false, cond, ◌&&◌, length, take, drop, ltb, eqb, Option, Some, None}
 use Rattle.byte_search.specs.Search.{index_of}
+use Rattle.time.specs.declared.Time.{Time}
 use Rattle.time.specs.Raw.{micros, micros_per_second, added}
-use Rattle.time.specs.declared.Sum.{Sum}
-use Rattle.time.specs.declared.Sum.TheVariants as sum
 use Rattle.reason.specs.declared.Reason.TheVariants.{NoTime, TooManyDecimals, NoTimeBefore, PastTheLastInstant}
 use Rattle.reason.specs.declared.Reason.TheVariants as reason
 use Rattle.digits.specs.Digits.{number_in}
@@ -85,9 +84,9 @@ abbrev pub at_length : Length → Moment
 at_length (long.Is d) = moment.At (record { 0 = d.0; 1 = d.1 })
 at_length (long.Wrong r) = moment.Wrong r
 
-abbrev pub in_range : Sum → Moment
-in_range (sum.At t) = moment.At t
-in_range sum.Overflow = moment.Wrong PastTheLastInstant
+abbrev pub in_range : Option Time → Moment
+in_range (Some t) = moment.At t
+in_range None = moment.Wrong PastTheLastInstant
 
 -- a length after the time before, of which there has to be one
 abbrev pub after_length : Before → Length → Moment

@@ -7,7 +7,7 @@ ghost use Rattle.moments.specs.Moments.{judged, part_of, seconds, exactly, in_mi
 
 use digits::Number;
 use reason::Reason;
-use time::{Duration, Sum, Time};
+use time::{Duration, Time};
 
 // What a line says of its time.
 #[derive(Clone, Copy)]
@@ -113,12 +113,12 @@ fn in_micros(s: u64, count: usize, decimals: Part) -> Length
     }
 }
 
-fn in_range(s: Sum) -> Moment
+fn in_range(s: Option<Time>) -> Moment
     ensures { result ≡ in_range s }
 {
     match s {
-        Sum::At(t) => Moment::At(t),
-        Sum::Overflow => Moment::Wrong(Reason::PastTheLastInstant),
+        Some(t) => Moment::At(t),
+        None => Moment::Wrong(Reason::PastTheLastInstant),
     }
 }
 

@@ -7,7 +7,7 @@ ghost use Rattle.flash.specs.Chip.{placed, verified, unserved, settled_answer, s
 use bits::{EV, PV};
 use control::supplies::supply_number;
 use permit::{serve_byte, serve_word};
-use registers::{Call, OpenPulse, Registers};
+use registers::{Call, Pulse, Registers};
 use time::Time;
 
 // What a byte read answers where reading is not normal and no pulse is open, after its settle.
@@ -24,12 +24,18 @@ fn verified(address: u16, time: Time, registers: Registers, sensed: [u8; 4]) -> 
 }
 
 // What a byte read answers where reading is not normal.
-fn unserved(address: u16, time: Time, pulse: OpenPulse, registers: Registers, sensed: [u8; 4]) -> u8
+fn unserved(
+    address: u16,
+    time: Time,
+    pulse: Option<Pulse>,
+    registers: Registers,
+    sensed: [u8; 4],
+) -> u8
     ensures { result ≡ unserved address time pulse registers sensed }
 {
     match pulse {
-        OpenPulse::Closed => verified(address, time, registers, sensed),
-        OpenPulse::Open(_) => 0xFF,
+        None => verified(address, time, registers, sensed),
+        Some(_) => 0xFF,
     }
 }
 
@@ -44,7 +50,7 @@ fn wide(byte: u8) -> u16
 pub fn settled_answer(
     call: Call,
     time: Time,
-    pulse: OpenPulse,
+    pulse: Option<Pulse>,
     registers: Registers,
     sensed: [u8; 4],
 ) -> u16

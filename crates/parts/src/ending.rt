@@ -7,7 +7,7 @@ ghost use Rattle.settle.specs.Settling.{same_direction, same_pulse, ends_of, ran
 
 use calling::{ending, ending_number};
 use cell::{Direction, PAGE};
-use registers::{Call, OpenPulse, Pulse};
+use registers::{Call, Pulse};
 use settling::word;
 
 // Bytes of a page, in an event word.
@@ -28,17 +28,17 @@ fn same_direction(a: Direction, b: Direction) -> bool
     }
 }
 
-fn same_pulse(a: OpenPulse, b: OpenPulse) -> bool
+fn same_pulse(a: Option<Pulse>, b: Option<Pulse>) -> bool
     ensures { result ≡ same_pulse a b }
 {
     match a {
-        OpenPulse::Closed => match b {
-            OpenPulse::Closed => true,
-            OpenPulse::Open(_) => false,
+        None => match b {
+            None => true,
+            Some(_) => false,
         },
-        OpenPulse::Open(p) => match b {
-            OpenPulse::Closed => false,
-            OpenPulse::Open(q) => {
+        Some(p) => match b {
+            None => false,
+            Some(q) => {
                 let direction = p.direction;
                 let other = q.direction;
                 let ready = p.ready;
@@ -73,8 +73,8 @@ pub fn end_pulse(
     count: usize,
     call: Call,
     control: u8,
-    old: OpenPulse,
-    new: OpenPulse,
+    old: Option<Pulse>,
+    new: Option<Pulse>,
 ) -> usize
     requires { (range_end old ≤ pages) × (1 ≤ range_bytes old → count < length events.old) }
     ensures { (events.new ≡ sets events.old count (ends_of call control old new)) × (result ≡ count + length (ends_of call control old new)) }
@@ -83,8 +83,8 @@ pub fn end_pulse(
         return count;
     }
     match old {
-        OpenPulse::Closed => count,
-        OpenPulse::Open(p) => {
+        None => count,
+        Some(p) => {
             if p.pages == 0 {
                 return count;
             }

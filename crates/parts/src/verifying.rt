@@ -6,7 +6,7 @@ ghost use Rattle.settle.specs.Settling.{verify_sense, sense_address, four_sensed
 
 use bits::{EV, PV};
 use cell::Sense;
-use control::Pending;
+use control::PendingSense;
 use control::verify::sense_due;
 use registers::Registers;
 use sensing::{ceilings, sense_byte};
@@ -23,12 +23,12 @@ fn verify_sense(control: u8) -> Sense
     Sense::ProgramVerify
 }
 
-fn sense_address(pending: Pending) -> u16
+fn sense_address(pending: Option<PendingSense>) -> u16
     ensures { result ≡ sense_address pending }
 {
     match pending {
-        Pending::Nothing => 0,
-        Pending::Sense(address, _) => address,
+        None => 0,
+        Some(sense) => sense.address,
     }
 }
 

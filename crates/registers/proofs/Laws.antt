@@ -11,10 +11,8 @@ use borrow.Author.Tests.{eqb-true, not-false}
 use Rattle.time.specs.declared.Time.{Time}
 use Rattle.registers.specs.declared.Registers.{Registers}
 use Rattle.control.specs.declared.Mode.{Mode}
-use Rattle.control.specs.declared.Pending.TheVariants.{Nothing}
+use Rattle.std.specs.Prelude.{None, Option, Some}
 use Rattle.registers.specs.declared.Pulse.{Pulse}
-use Rattle.registers.specs.declared.OpenPulse.{OpenPulse}
-use Rattle.registers.specs.declared.OpenPulse.TheVariants.{Closed, Open}
 use Rattle.registers.specs.declared.Call.{Call}
 use Rattle.registers.specs.declared.Call.TheVariants.{WriteRegister, Write8, Read8, Read16, Protect, Reset, PowerOff, Environment}
 use Rattle.registers.specs.Fields.{with_enabled, with_verify_pending}
@@ -39,7 +37,7 @@ pub settled-fields : (now : Time) (r : Registers) → settled now r ≡ with_ver
 unfolding settled
 settled-fields now r = by (sense_due r.verify_pending r.supply now)
   where
-    by : (b : Bool) → cond b (with_verify_pending Nothing r) r ≡ with_verify_pending (cond b (with_verify_pending Nothing r) r).verify_pending r
+    by : (b : Bool) → cond b (with_verify_pending None r) r ≡ with_verify_pending (cond b (with_verify_pending None r) r).verify_pending r
     by true = refl
     by false = refl
 
@@ -55,19 +53,19 @@ pub settled-due : (now : Time) (r : Registers) → sense_due (settled now r).ver
 unfolding settled
 settled-due now r = by (sense_due r.verify_pending r.supply now) refl
   where
-    by : (b : Bool) → sense_due r.verify_pending r.supply now ≡ b → sense_due (cond b (with_verify_pending Nothing r) r).verify_pending (cond b (with_verify_pending Nothing r) r).supply now ≡ false
+    by : (b : Bool) → sense_due r.verify_pending r.supply now ≡ b → sense_due (cond b (with_verify_pending None r) r).verify_pending (cond b (with_verify_pending None r) r).supply now ≡ false
     by true e = refl
     by false e = e
 
 -- ---- the pulse
 
 -- no pulse is open while control's low four bits are 0
-pub low-closed : (r : Registers) → low r.control ≡ 0 → pulse r ≡ Closed
+pub low-closed : (r : Registers) → low r.control ≡ 0 → pulse r ≡ None
 unfolding pulse
-low-closed r e = rw e (same (powered r) Closed)
+low-closed r e = rw e (same (powered r) None)
 
 -- nor while reading is normal
-pub normal-closed : (now : Time) (r : Registers) → normal now r ≡ true → pulse r ≡ Closed
+pub normal-closed : (now : Time) (r : Registers) → normal now r ≡ true → pulse r ≡ None
 unfolding normal
 normal-closed now r e =
     let z : r.control % 64 ≡ 0 = eqb-true (r.control % 64) 0 (by (eqb (r.control % 64) 0) _ _ _ e) in
@@ -78,27 +76,27 @@ normal-closed now r e =
     by false b c d e = e
 
 -- tripping protection closes the pulse
-pub tripped-closed : (now : Time) (r : Registers) → pulse (tripped (pulse r) now r) ≡ Closed
+pub tripped-closed : (now : Time) (r : Registers) → pulse (tripped (pulse r) now r) ≡ None
 unfolding pulse
 tripped-closed now r = by (pulse r) refl
   where
-    by : (o : OpenPulse) → pulse r ≡ o → pulse (tripped o now r) ≡ Closed
-    by Closed e = e
-    by (Open p) e = refl
+    by : (o : Option Pulse) → pulse r ≡ o → pulse (tripped o now r) ≡ None
+    by None e = e
+    by (Some p) e = refl
 
 -- and changes neither the pending sense nor the latch
-tripped-due : (o : OpenPulse) (now : Time) (r : Registers) → sense_due (tripped o now r).verify_pending (tripped o now r).supply now ≡ sense_due r.verify_pending r.supply now
-tripped-due Closed now r = refl
-tripped-due (Open p) now r = refl
+tripped-due : (o : Option Pulse) (now : Time) (r : Registers) → sense_due (tripped o now r).verify_pending (tripped o now r).supply now ≡ sense_due r.verify_pending r.supply now
+tripped-due None now r = refl
+tripped-due (Some p) now r = refl
 
-tripped-latch : (o : OpenPulse) (now : Time) (r : Registers) → (tripped o now (settled now r)).latch ≡ r.latch
-tripped-latch Closed now r = settled-latch now r
-tripped-latch (Open p) now r = settled-latch now r
+tripped-latch : (o : Option Pulse) (now : Time) (r : Registers) → (tripped o now (settled now r)).latch ≡ r.latch
+tripped-latch None now r = settled-latch now r
+tripped-latch (Some p) now r = settled-latch now r
 
 -- ---- reading
 
 -- with no pulse open and no sense due a read changes nothing
-read8-closed : (now : Time) (r : Registers) → pulse r ≡ Closed → sense_due r.verify_pending r.supply now ≡ false → read8 now r ≡ r
+read8-closed : (now : Time) (r : Registers) → pulse r ≡ None → sense_due r.verify_pending r.supply now ≡ false → read8 now r ≡ r
 unfolding read8 settled
 read8-closed now r p d = rw (p, d) (same (normal now r) r)
 
@@ -150,7 +148,7 @@ quiet (Environment mode modul oscillator) now r e = rw (not-false (unchanged mod
 -- ---- the latch under an open pulse
 
 -- a pulse that is closed and open
-clash : {A : Type 0} (o : OpenPulse) (p : Pulse) → o ≡ Closed → o ≡ Open p → A
+clash : {A : Type 0} (o : Option Pulse) (p : Pulse) → o ≡ None → o ≡ Some p → A
 clash o p e f = absurd (let z : ◌≡◌ {A = ℕ} 0 1 = cc in omega arith)
 
 -- the latch of one of two registers
@@ -171,7 +169,7 @@ write-latch a v now r =
     (latch-of r.enabled _ _ _ (register-latch a v now (settled now r) ∙ settled-latch now r) refl)
 
 -- latching needs control's low four bits 0, with which no pulse is open
-data-latch : (a v : ℕ) (now : Time) (r : Registers) (p : Pulse) → pulse r ≡ Open p → (data_write a v now r).latch ≡ r.latch
+data-latch : (a v : ℕ) (now : Time) (r : Registers) (p : Pulse) → pulse r ≡ Some p → (data_write a v now r).latch ≡ r.latch
 unfolding data_write data_taken
 data-latch a v now r p h = latch-of (takes_data now r) _ _ _ (by (eqb (low r.control) 0) refl) refl
   where
@@ -193,16 +191,16 @@ environment-latch mode modul oscillator now r =
     latch-of (unchanged mode modul oscillator r) _ _ _ refl
     (latch-of (clears mode modul r) _ _ _ (settled-latch now r) (settled-latch now r))
 
-reset-closed : (now : Time) (r : Registers) → pulse (reset now r) ≡ Closed
+reset-closed : (now : Time) (r : Registers) → pulse (reset now r) ≡ None
 unfolding reset
 reset-closed now r = low-closed (reset now r) refl
 
-off-closed : (now : Time) (r : Registers) → pulse (power_off now r) ≡ Closed
+off-closed : (now : Time) (r : Registers) → pulse (power_off now r) ≡ None
 unfolding power_off reset
 off-closed now r = low-closed (power_off now r) refl
 
 -- while the same pulse stays open the latch stays as it is
-pub kept : (c : Call) (now : Time) (r : Registers) (p : Pulse) → pulse r ≡ Open p → pulse (next c now r) ≡ Open p → (next c now r).latch ≡ r.latch
+pub kept : (c : Call) (now : Time) (r : Registers) (p : Pulse) → pulse r ≡ Some p → pulse (next c now r) ≡ Some p → (next c now r).latch ≡ r.latch
 unfolding next write8
 kept (WriteRegister a v) now r p h k = write-latch a v now r
 kept (Write8 a v) now r p h k = data-latch a v now (settled now r) p (settled-pulse now r ∙ h) ∙ settled-latch now r

@@ -1,8 +1,7 @@
 -- Settling as the registers see it, and reading and writing registers. Document 01, "Registers and latch".
 -- Assumes nothing.
-use Rattle.std.specs.Prelude.{ℕ, cond, not, eqb}
+use Rattle.std.specs.Prelude.{ℕ, cond, not, eqb, None}
 use Rattle.time.specs.declared.Time.{Time}
-use Rattle.control.specs.declared.Pending.TheVariants.{Nothing}
 use Rattle.control.specs.Bits.{FLMCR1, FLMCR2, FLPWCR, EBR1, FENR, FLAG, SWE, PSU, ESU, has, rises, flag, control_value, erase_after, erase_value}
 use Rattle.control.specs.Waits.{renewed, swe_rise, psu_rise, esu_rise, recovery_after, verify_ready_after}
 use Rattle.control.specs.Verify.{sense_due, pending_after}
@@ -11,7 +10,7 @@ use Rattle.registers.specs.Fields.{with_control, with_erase, with_enabled, with_
 
 -- the registers after a settle: a sense that was due is no longer pending
 unfoldable pub settled : Time → Registers → Registers
-settled now r = cond (sense_due r.verify_pending r.supply now) (with_verify_pending Nothing r) r
+settled now r = cond (sense_due r.verify_pending r.supply now) (with_verify_pending None r) r
 
 -- F02B bit 7: enabled. While not enabled the others read 0. F021 bit 7: error. F022 bit 7: power-down disabled. F023: erase.
 -- Other addresses read 0.

@@ -1,6 +1,6 @@
 -- A fresh array, reset, power-off, and changes of mode, module and oscillator. Document 01, "Supply and reset".
 -- Assumes nothing.
-use Rattle.std.specs.Prelude.{ℕ, Bool, true, false, cond, not, ◌&&◌, ◌||◌, List, eqb, replicate}
+use Rattle.std.specs.Prelude.{ℕ, Bool, true, false, cond, not, ◌&&◌, ◌||◌, List, eqb, replicate, None}
 use Rattle.std.specs.Bool.{beq}
 use Rattle.time.specs.declared.Time.{Time}
 use Rattle.time.specs.Raw.{instant}
@@ -9,7 +9,6 @@ use Rattle.control.specs.declared.Mode.{Mode}
 use Rattle.control.specs.declared.Mode.TheVariants.{Active}
 use Rattle.control.specs.declared.Supply.{Supply}
 use Rattle.control.specs.declared.Supply.TheVariants.{Normal, Stopped}
-use Rattle.control.specs.declared.Pending.TheVariants.{Nothing}
 use Rattle.control.specs.Waits.{renewed, swe_rise, psu_rise, esu_rise, supply_wait}
 use Rattle.control.specs.Supplies.{mode_number, supply_in, same_supply, same_mode, supplied, starts}
 use Rattle.registers.specs.declared.Registers.{Registers}
@@ -22,7 +21,7 @@ blank_latch = replicate page_bytes 0xFF
 
 -- control, error, erase and pending cleared
 abbrev pub cleared : Registers → Registers
-cleared r = with_control 0 (with_error false (with_erase 0 (with_verify_pending Nothing r)))
+cleared r = with_control 0 (with_error false (with_erase 0 (with_verify_pending None r)))
 
 -- Reset settles, clears those four, then enabled and power-down; latch becomes FF, page 0, recovery now.
 unfoldable pub reset : Time → Registers → Registers
@@ -55,7 +54,7 @@ fresh =
       erase_ready = instant 0;
       recovery = instant 0;
       verify_ready = instant 0;
-      verify_pending = Nothing;
+      verify_pending = None;
     }
 
 -- ---- environment

@@ -1,11 +1,11 @@
 -- One field of the registers changed, the others as they were.
 -- Assumes nothing.
-use Rattle.std.specs.Prelude.{◌≡◌, ℕ, Bool, List}
+use Rattle.std.specs.Prelude.{◌≡◌, ℕ, Bool, List, Option}
 use Rattle.time.specs.declared.Time.{Time}
 use Rattle.registers.specs.declared.Registers.{Registers}
 use Rattle.control.specs.declared.Supply.{Supply}
 use Rattle.control.specs.declared.Mode.{Mode}
-use Rattle.control.specs.declared.Pending.{Pending}
+use Rattle.control.specs.declared.PendingSense.{PendingSense}
 
 -- what is claimed of each: the field is what it was set to, with its own value nothing changes, and the last change counts
 pub record Changes {A : Type 0} (field : Registers → A) (put : A → Registers → Registers) : Type 0 where
@@ -81,6 +81,6 @@ abbrev pub with_verify_ready : Time → Registers → Registers
 with_verify_ready x r =
     record { control = r.control; error = r.error; erase = r.erase; enabled = r.enabled; power_down_disabled = r.power_down_disabled; latch = r.latch; page = r.page; supply = r.supply; oscillator = r.oscillator; mode = r.mode; «module» = r.«module»; ready = r.ready; swe_ready = r.swe_ready; program_ready = r.program_ready; erase_ready = r.erase_ready; recovery = r.recovery; verify_ready = x; verify_pending = r.verify_pending }
 
-abbrev pub with_verify_pending : Pending → Registers → Registers
+abbrev pub with_verify_pending : Option PendingSense → Registers → Registers
 with_verify_pending x r =
     record { control = r.control; error = r.error; erase = r.erase; enabled = r.enabled; power_down_disabled = r.power_down_disabled; latch = r.latch; page = r.page; supply = r.supply; oscillator = r.oscillator; mode = r.mode; «module» = r.«module»; ready = r.ready; swe_ready = r.swe_ready; program_ready = r.program_ready; erase_ready = r.erase_ready; recovery = r.recovery; verify_ready = r.verify_ready; verify_pending = x }

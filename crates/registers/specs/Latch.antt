@@ -1,10 +1,9 @@
 -- The data write. Document 01, "Registers and latch".
 -- Assumes nothing.
-use Rattle.std.specs.Prelude.{ℕ, ◌*◌, ◌/◌, ◌%◌, Bool, cond, ◌&&◌, eqb, set}
+use Rattle.std.specs.Prelude.{ℕ, ◌*◌, ◌/◌, ◌%◌, Bool, cond, ◌&&◌, eqb, set, Some}
 use Rattle.time.specs.declared.Time.{Time}
 use Rattle.time.specs.Raw.{later, after}
 use Rattle.cell.specs.Cell.{page_bytes}
-use Rattle.control.specs.declared.Pending.TheVariants.{Sense}
 use Rattle.control.specs.Bits.{SWE, has, low, verifies}
 use Rattle.control.specs.Waits.{reached, sense_wait}
 use Rattle.control.specs.Supplies.{is_normal}
@@ -23,7 +22,7 @@ latched a v r = with_latch (set r.latch (a % page_bytes) v) (with_page (a / page
 -- A sense of the aligned four bytes becomes pending for the latest of now plus 2 µs, verify-ready, recovery, ready.
 abbrev pub sense_pending : ℕ → Time → Registers → Registers
 sense_pending a now r =
-    with_verify_pending (Sense (a / 4 * 4) (later (later (later (after now sense_wait) r.verify_ready) r.recovery) r.ready)) r
+    with_verify_pending (Some (record { address = a / 4 * 4; at = later (later (later (after now sense_wait) r.verify_ready) r.recovery) r.ready })) r
 
 -- With control's low four bits 0 and now at or past recovery: latched. Under PV alone or EV alone: pending. Otherwise nothing.
 unfoldable pub data_taken : ℕ → ℕ → Time → Registers → Registers

@@ -1,6 +1,6 @@
 -- Pulses: which is open, when reading is normal, and what protection does. Document 01, "Pulses and settling".
 -- Assumes nothing.
-use Rattle.std.specs.Prelude.{◌/◌, ◌%◌, Bool, true, false, cond, not, ◌&&◌, eqb}
+use Rattle.std.specs.Prelude.{◌/◌, ◌%◌, Bool, true, cond, not, ◌&&◌, eqb, Option, Some, None, is_some}
 use Rattle.time.specs.declared.Time.{Time}
 use Rattle.time.specs.Raw.{later, after}
 use Rattle.cell.specs.declared.Direction.TheVariants.{Program, Erase}
@@ -11,8 +11,6 @@ use Rattle.control.specs.Supplies.{is_normal, is_stopped}
 use Rattle.control.specs.Blocks.{erase_range}
 use Rattle.registers.specs.declared.Registers.{Registers}
 use Rattle.registers.specs.declared.Pulse.{Pulse}
-use Rattle.registers.specs.declared.OpenPulse.{OpenPulse}
-use Rattle.registers.specs.declared.OpenPulse.TheVariants.{Closed, Open}
 use Rattle.registers.specs.Fields.{with_error, with_recovery}
 use Rattle.registers.specs.Access.{settled}
 
@@ -38,17 +36,16 @@ erase_pulse r =
 abbrev pub powered : Registers → Bool
 powered r = not r.error && r.oscillator && is_normal r.supply && has r.control SWE
 
-unfoldable pub pulse : Registers → OpenPulse
+unfoldable pub pulse : Registers → Option Pulse
 pulse r =
     cond (powered r)
-    (cond (eqb (low r.control) P && has r.control PSU) (Open (program_pulse r))
-    (cond (eqb (low r.control) E && has r.control ESU) (Open (erase_pulse r))
-    Closed))
-    Closed
+    (cond (eqb (low r.control) P && has r.control PSU) (Some (program_pulse r))
+    (cond (eqb (low r.control) E && has r.control ESU) (Some (erase_pulse r))
+    None))
+    None
 
-abbrev pub is_open : OpenPulse → Bool
-is_open Closed = false
-is_open (Open p) = true
+abbrev pub is_open : Option Pulse → Bool
+is_open p = is_some p
 
 -- Normal reading: with control's low six bits 0, supply not Stopped and now at or past ready and recovery.
 unfoldable pub normal : Time → Registers → Bool
@@ -56,9 +53,9 @@ normal now r =
     eqb (r.control % 64) 0 && not (is_stopped r.supply) && reached now r.ready && reached now r.recovery
 
 -- An open pulse trips protection: error, recovery 5 µs (erase 10).
-abbrev pub tripped : OpenPulse → Time → Registers → Registers
-tripped Closed now r = r
-tripped (Open p) now r = with_error true (with_recovery (later r.recovery (after now (trip_wait p.direction))) r)
+abbrev pub tripped : Option Pulse → Time → Registers → Registers
+tripped None now r = r
+tripped (Some p) now r = with_error true (with_recovery (later r.recovery (after now (trip_wait p.direction))) r)
 
 -- `protect` without a pulse does nothing.
 unfoldable pub protect : Time → Registers → Registers

@@ -10,7 +10,7 @@ ghost use Rattle.registers.specs.Environment.{fresh};
 
 use cell::{Direction, PAGE};
 use control::verify::sense_due;
-use control::{Mode, Pending, Supply};
+use control::{Mode, PendingSense, Supply};
 use time::Time;
 
 // Bytes of a page, as an address has them.
@@ -35,7 +35,7 @@ pub struct Registers {
     pub erase_ready: Time,
     pub recovery: Time,
     pub verify_ready: Time,
-    pub verify_pending: Pending,
+    pub verify_pending: Option<PendingSense>,
 }
 
 impl Registers {
@@ -61,7 +61,7 @@ impl Registers {
             erase_ready: Time(0, 0),
             recovery: Time(0, 0),
             verify_ready: Time(0, 0),
-            verify_pending: Pending::Nothing,
+            verify_pending: None,
         }
     }
 
@@ -73,7 +73,7 @@ impl Registers {
         let supply = self.supply;
         if sense_due(pending, supply, now) {
             return Registers {
-                verify_pending: Pending::Nothing,
+                verify_pending: None,
                 ..self
             };
         }
@@ -88,12 +88,6 @@ pub struct Pulse {
     pub first: u16,
     pub pages: u16,
     pub ready: Time,
-}
-
-#[derive(Clone, Copy)]
-pub enum OpenPulse {
-    Closed,
-    Open(Pulse),
 }
 
 // The calls that the ledger enters, with their arguments but the time.

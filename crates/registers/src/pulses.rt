@@ -3,7 +3,7 @@ ghost use Rattle.std.specs.Prelude.{◌≡◌};
 ghost use Rattle.time.specs.Raw.{BeforeLastSecond};
 ghost use Rattle.registers.specs.Pulses.{ready_for, program_pulse, erase_pulse, powered, pulse, normal, tripped, protect, read8, read16};
 
-use crate::{OpenPulse, PAGE_BYTES, Pulse, Registers};
+use crate::{PAGE_BYTES, Pulse, Registers};
 use bits::{E, ESU, P, PSU, SWE, has};
 use cell::Direction;
 use control::blocks::erase_range;
@@ -52,21 +52,21 @@ impl Registers {
     }
 
     // The open pulse.
-    pub fn pulse(self) -> OpenPulse
+    pub fn pulse(self) -> Option<Pulse>
         ensures { result ≡ pulse self }
     {
         let control = self.control;
         let low = control % 16;
         if self.powered() {
             if (low == P) & has(control, PSU) {
-                return OpenPulse::Open(self.program_pulse());
+                return Some(self.program_pulse());
             }
             if (low == E) & has(control, ESU) {
-                return OpenPulse::Open(self.erase_pulse());
+                return Some(self.erase_pulse());
             }
-            return OpenPulse::Closed;
+            return None;
         }
-        OpenPulse::Closed
+        None
     }
 
     // Whether reading is normal.
@@ -81,13 +81,13 @@ impl Registers {
     }
 
     // What a tripped protection does to the registers.
-    pub fn tripped(self, pulse: OpenPulse, now: Time) -> Registers
+    pub fn tripped(self, pulse: Option<Pulse>, now: Time) -> Registers
         requires { BeforeLastSecond now }
         ensures { result ≡ tripped pulse now self }
     {
         match pulse {
-            OpenPulse::Closed => self,
-            OpenPulse::Open(p) => {
+            None => self,
+            Some(p) => {
                 let direction = p.direction;
                 let recovery = self.recovery.max(now.after(trip_wait(direction)));
                 let mut r = self;
@@ -103,10 +103,10 @@ impl Registers {
         ensures { result ≡ protect now self }
     {
         let pulse = self.pulse();
-        match pulse {
-            OpenPulse::Closed => self,
-            OpenPulse::Open(p) => self.settled(now).tripped(OpenPulse::Open(p), now),
+        if pulse.is_some() {
+            return self.settled(now).tripped(pulse, now);
         }
+        self
     }
 
     // What reading a byte does to the registers.

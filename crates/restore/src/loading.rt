@@ -6,7 +6,7 @@ ghost use Rattle.snapshot.specs.Places.{page_at, pages_place, pages_cells, state
 
 use cell::{PAGE, PAGE_CELLS, PAGES};
 use coding::state::{mode_of, supply_of};
-use control::Pending;
+use control::PendingSense;
 use flash::Flash;
 use registers::Registers;
 use rows::numbers::{get16, get64};
@@ -26,16 +26,16 @@ fn time_at(bytes: &[u8], at: usize) -> Time
 }
 
 // The pending sense of the state at a place; every state has 256 bytes at least.
-fn pending_at(bytes: &[u8], at: usize) -> Pending
+fn pending_at(bytes: &[u8], at: usize) -> Option<PendingSense>
     requires { at + state_length bytes.now at ≤ length bytes.now }
     ensures { (result ≡ pending_at bytes.now at) × (at + 256 ≤ length bytes.now) }
 {
     if bytes[at + 251] == 1 {
         let address = get16(bytes, at + 252);
         let ready = time_at(bytes, at + 254);
-        return Pending::Sense(address, ready);
+        return Some(PendingSense { address, at: ready });
     }
-    Pending::Nothing
+    None
 }
 
 fn registers_at(bytes: &[u8], at: usize) -> Registers

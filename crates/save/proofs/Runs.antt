@@ -8,7 +8,7 @@ use native.Mathlib.Omega.{arith}
 use lib.ListN.{take}
 use Rattle.time.specs.declared.Time.{Time}
 use Rattle.time.specs.Raw.{raw}
-use Rattle.control.specs.declared.Pending.TheVariants.{Nothing, Sense}
+use Rattle.std.specs.Prelude.{Some, None}
 use Rattle.control.specs.Supplies.{supply_number, mode_number}
 use Rattle.layout.specs.Layout.{bytes, row_bytes, flag_byte}
 use Rattle.layout.proofs.Widths.{bytes-split}
@@ -69,12 +69,12 @@ instants-row a b c d e f g ha hb hc hd he hf hg =
 
 -- ---- a pending sense
 
-pub nothing-row : pending.write Nothing ≡ bytes 1 0
+pub nothing-row : pending.write None ≡ bytes 1 0
 unfolding pending mapped option bool enum only int
 nothing-row = refl
 
 pub sense-row : (address : ℕ) (t : Time) → Halved t
-    → pending.write (Sense address t) ≡ bytes 1 1 ++ (bytes 2 address ++ row_bytes 8 (t.1 ∷ t.0 ∷ []))
+    → pending.write (Some (record { address = address; at = t })) ≡ bytes 1 1 ++ (bytes 2 address ++ row_bytes 8 (t.1 ∷ t.0 ∷ []))
 unfolding pending mapped option bool enum only int ◌then◌
 sense-row address t h = rw (last_row t h)
 

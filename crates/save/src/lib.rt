@@ -15,7 +15,7 @@ use cell::{PAGE, PAGE_CELLS, PAGES};
 use checks::accepts;
 use coding::read;
 use coding::state::flag_byte;
-use control::Pending;
+use control::PendingSense;
 use control::supplies::{mode_number, supply_number};
 use flash::Flash;
 use lent::checking::sizes_misfit;
@@ -133,19 +133,19 @@ fn put_instants(out: &mut [u8], at: usize, flash: Flash)
 }
 
 // 0, or 1 with address and instant. The answer is the place after it.
-fn put_pending(out: &mut [u8], at: usize, sense: Pending) -> usize
+fn put_pending(out: &mut [u8], at: usize, sense: Option<PendingSense>) -> usize
     requires { at + 1 + 18 * option_byte sense ≤ length out.old }
     ensures { (result ≡ at + 1 + 18 * option_byte sense) × (take result out.new ≡ take at out.old ++ pending.write sense) }
 {
     match sense {
-        Pending::Nothing => {
+        None => {
             out[at] = 0;
             at + 1
         }
-        Pending::Sense(address, ready) => {
+        Some(due) => {
             out[at] = 1;
-            put16(out, at + 1, address);
-            let halves = [ready.1, ready.0];
+            put16(out, at + 1, due.address);
+            let halves = [due.at.1, due.at.0];
             put_halves(out, at + 3, &halves);
             at + 19
         }
@@ -168,14 +168,14 @@ fn put_state(out: &mut [u8], at: usize, flash: Flash)
 }
 
 // How long a snapshot is.
-fn snapshot_length(count: usize, sense: Pending) -> usize
+fn snapshot_length(count: usize, sense: Option<PendingSense>) -> usize
     requires { count ≤ pages }
     ensures { result ≡ snapshot_length count sense }
 {
     let base = 49412 + count * PAGE_LEN;
     match sense {
-        Pending::Nothing => base,
-        Pending::Sense(_, _) => base + 18,
+        None => base,
+        Some(_) => base + 18,
     }
 }
 

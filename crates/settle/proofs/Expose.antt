@@ -10,6 +10,7 @@ use native.Mathlib.Decide.{dec_le, dec_lt}
 use borrow.Author.Tests.{le-leb, lt-leb, lt-ltb, le-ltb}
 use lib.ListN.{length}
 use lib.Dec.{eqb, leb}
+use Rattle.std.specs.Prelude.{Option, Some, None}
 use Rattle.time.specs.declared.Time.{Time}
 use Rattle.time.specs.Raw.{raw}
 use Rattle.time.proofs.Laws.{raw-later}
@@ -21,8 +22,6 @@ use Rattle.cell.proofs.Maps.{length-mapi, get_or-mapi}
 use Rattle.cell.proofs.Rule.{exposures-add, exposed-full}
 use Rattle.cell.proofs.Sensed.{sensed_byte-same}
 use Rattle.registers.specs.declared.Pulse.{Pulse}
-use Rattle.registers.specs.declared.OpenPulse.{OpenPulse}
-use Rattle.registers.specs.declared.OpenPulse.TheVariants.{Closed, Open}
 use Rattle.settle.specs.Pages.{Cells, held, cell_at, on_pages}
 use Rattle.settle.specs.Settling.{exposure, covers, charged, ruled, normal_byte, resensed, expose, settled_by}
 use Rattle.settle.proofs.Slots.{SlotsOf}
@@ -233,22 +232,22 @@ expose-sound p latch (suc l) c inv =
 -- ---- a settle
 
 module _ (latch : List ℕ) (since now : Time) (c : Cells) where
-  pub settled-slots : (o : OpenPulse) → SlotsOf c → SlotsOf (settled_by o latch since now c)
+  pub settled-slots : (o : Option Pulse) → SlotsOf c → SlotsOf (settled_by o latch since now c)
   unfolding settled_by
-  settled-slots Closed inv = inv
-  settled-slots (Open p) inv = expose-slots p latch (exposure p since now) c inv
+  settled-slots None inv = inv
+  settled-slots (Some p) inv = expose-slots p latch (exposure p since now) c inv
 
-  pub settled-array-length : (o : OpenPulse) → length (settled_by o latch since now c).array ≡ length c.array
+  pub settled-array-length : (o : Option Pulse) → length (settled_by o latch since now c).array ≡ length c.array
   unfolding settled_by
-  settled-array-length Closed = refl
-  settled-array-length (Open p) = expose-array-length p latch (exposure p since now) c
+  settled-array-length None = refl
+  settled-array-length (Some p) = expose-array-length p latch (exposure p since now) c
 
-  pub settled-sound : (o : OpenPulse) → Sound c → Sound (settled_by o latch since now c)
+  pub settled-sound : (o : Option Pulse) → Sound c → Sound (settled_by o latch since now c)
   unfolding settled_by
-  settled-sound Closed inv = inv
-  settled-sound (Open p) inv = expose-sound p latch (exposure p since now) c inv
+  settled-sound None inv = inv
+  settled-sound (Some p) inv = expose-sound p latch (exposure p since now) c inv
 
   pub settled-cell-full : (p : Pulse) → SlotsOf c → (i : ℕ) → i < 393216 → cell_at c i ≤ FULL
-      → cell_at (settled_by (Open p) latch since now c) i ≡ ruled p latch (exposure p since now) i (cell_at c i)
+      → cell_at (settled_by (Some p) latch since now c) i ≡ ruled p latch (exposure p since now) i (cell_at c i)
   unfolding settled_by
   settled-cell-full p inv i h k = expose-cell-full p latch (exposure p since now) c inv i h k

@@ -1,7 +1,7 @@
 -- Settling: exposure, charges, the range's bytes, event words, and the pending sense. Document 01, "Pulses and settling" and
 -- "Verify sensing, looking, snapshot".
 -- Assumes nothing.
-use Rattle.std.specs.Prelude.{ℕ, zero, suc, ◌+◌, ◌-◌, ◌*◌, ◌/◌, ◌%◌, ◌^◌, Bool, true, false, cond, ◌&&◌, List, [], ◌∷◌, ◌++◌, ◌≡◌, leb, ltb, eqb, length}
+use Rattle.std.specs.Prelude.{ℕ, zero, suc, ◌+◌, ◌-◌, ◌*◌, ◌/◌, ◌%◌, ◌^◌, Bool, true, false, cond, ◌&&◌, List, [], ◌∷◌, ◌++◌, ◌≡◌, leb, ltb, eqb, length, Option, Some, None}
 use Rattle.std.proofs.lemmas.List.Edits.{sets}
 use Rattle.time.specs.declared.Time.{Time}
 use Rattle.time.specs.Raw.{raw, later}
@@ -10,14 +10,11 @@ use Rattle.cell.specs.declared.Direction.TheVariants.{Program, Erase}
 use Rattle.cell.specs.declared.Sense.{Sense}
 use Rattle.cell.specs.declared.Sense.TheVariants.{Normal, ProgramVerify, EraseVerify}
 use Rattle.cell.specs.Cell.{page_bytes, page_cells, mapi, tabulate, sensed_byte, exposed, page_bit}
-use Rattle.control.specs.declared.Pending.{Pending}
-use Rattle.control.specs.declared.Pending.TheVariants as pending
+use Rattle.control.specs.declared.PendingSense.{PendingSense}
 use Rattle.control.specs.Bits.{EV, low, verifies}
 use Rattle.control.specs.Verify.{sense_due}
 use Rattle.registers.specs.declared.Registers.{Registers}
 use Rattle.registers.specs.declared.Pulse.{Pulse}
-use Rattle.registers.specs.declared.OpenPulse.{OpenPulse}
-use Rattle.registers.specs.declared.OpenPulse.TheVariants.{Closed, Open}
 use Rattle.registers.specs.declared.Call.{Call}
 use Rattle.registers.specs.Pulses.{pulse}
 use Rattle.registers.specs.Calls.{next, ending, ending_number}
@@ -32,13 +29,13 @@ unfoldable pub covers : Pulse → ℕ → Bool
 covers p x = leb p.first x && ltb x (p.first + p.pages)
 
 -- bytes of the open pulse's range, 0 without one; the page past its end
-abbrev pub range_bytes : OpenPulse → ℕ
-range_bytes Closed = 0
-range_bytes (Open p) = p.pages * page_bytes
+abbrev pub range_bytes : Option Pulse → ℕ
+range_bytes None = 0
+range_bytes (Some p) = p.pages * page_bytes
 
-abbrev pub range_end : OpenPulse → ℕ
-range_end Closed = 0
-range_end (Open p) = p.first + p.pages
+abbrev pub range_end : Option Pulse → ℕ
+range_end None = 0
+range_end (Some p) = p.first + p.pages
 
 -- the charge q of a cell i of the range after an exposure of l
 unfoldable pub charged : Pulse → List ℕ → ℕ → ℕ → ℕ → ℕ
@@ -71,9 +68,9 @@ expose p latch (suc l) c =
     }
 
 -- index, array and charges after a settle
-unfoldable pub settled_by : OpenPulse → List ℕ → Time → Time → Cells → Cells
-settled_by Closed latch since now c = c
-settled_by (Open p) latch since now c = expose p latch (exposure p since now) c
+unfoldable pub settled_by : Option Pulse → List ℕ → Time → Time → Cells → Cells
+settled_by None latch since now c = c
+settled_by (Some p) latch since now c = expose p latch (exposure p since now) c
 
 -- ---- event words
 
@@ -113,23 +110,23 @@ same_direction Erase Erase = true
 abbrev pub same_time : Time → Time → Bool
 same_time s t = eqb s.0 t.0 && eqb s.1 t.1
 
-unfoldable pub same_pulse : OpenPulse → OpenPulse → Bool
-same_pulse Closed Closed = true
-same_pulse Closed (Open q) = false
-same_pulse (Open p) Closed = false
-same_pulse (Open p) (Open q) =
+unfoldable pub same_pulse : Option Pulse → Option Pulse → Bool
+same_pulse None None = true
+same_pulse None (Some q) = false
+same_pulse (Some p) None = false
+same_pulse (Some p) (Some q) =
     same_direction p.direction q.direction && eqb p.first q.first && eqb p.pages q.pages && same_time p.ready q.ready
 
 -- the end event of a pulse: the range's first address and length; none for an empty range
 unfoldable pub end_of : ℕ → Pulse → List ℕ
 end_of kind p = cond (eqb p.pages 0) [] (word kind (p.first * page_bytes) (p.pages * page_bytes) ∷ [])
 
-unfoldable pub ended : Call → ℕ → OpenPulse → List ℕ
-ended c control Closed = []
-ended c control (Open p) = end_of (ending_number (ending p.direction c control)) p
+unfoldable pub ended : Call → ℕ → Option Pulse → List ℕ
+ended c control None = []
+ended c control (Some p) = end_of (ending_number (ending p.direction c control)) p
 
 -- A pulse that a call changes gives one end event; control is as the call left it.
-abbrev pub ends_of : Call → ℕ → OpenPulse → OpenPulse → List ℕ
+abbrev pub ends_of : Call → ℕ → Option Pulse → Option Pulse → List ℕ
 ends_of c control old new = cond (same_pulse old new) [] (ended c control old)
 
 unfoldable pub end_words : Call → Time → Registers → List ℕ
@@ -141,9 +138,9 @@ end_words c now r = ends_of c (next c now r).control (pulse r) (pulse (next c no
 abbrev pub verify_sense : ℕ → Sense
 verify_sense control = cond (eqb (low control) EV) EraseVerify ProgramVerify
 
-abbrev pub sense_address : Pending → ℕ
-sense_address pending.Nothing = 0
-sense_address (pending.Sense a t) = a
+abbrev pub sense_address : Option PendingSense → ℕ
+sense_address None = 0
+sense_address (Some sense) = sense.address
 
 -- the four bytes at address a
 unfoldable pub four_sensed : Sense → ℕ → Cells → List ℕ

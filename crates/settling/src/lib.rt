@@ -11,7 +11,7 @@ ghost use Rattle.settle.specs.Pages.{slots_sound};
 ghost use Rattle.settle.specs.Settling.{expose, settled_by, spanned, changes, byte_kind, word, Left, range_bytes, range_end};
 
 use cell::{PAGE, PAGE_CELLS, Sense};
-use registers::{OpenPulse, Pulse};
+use registers::Pulse;
 use sensing::{ceilings, sense_page};
 use settle::pages::{charge_page, opened};
 use time::{Duration, Time};
@@ -127,7 +127,7 @@ pub fn settle(
     array: &mut [u8],
     charges: &mut [u64],
     events: &mut [u64],
-    pulse: OpenPulse,
+    pulse: Option<Pulse>,
     latch: &[u8; PAGE],
     since: Time,
     time: Time,
@@ -136,8 +136,8 @@ pub fn settle(
     ensures { Left (settled_by pulse latch.now since time (record { index = indices.old; array = array.old; charges = charges.old })) (changes 0 array.old (settled_by pulse latch.now since time (record { index = indices.old; array = array.old; charges = charges.old })).array) events.old indices.new array.new charges.new events.new result }
 {
     match pulse {
-        OpenPulse::Closed => 0,
-        OpenPulse::Open(p) => {
+        None => 0,
+        Some(p) => {
             let ready = p.ready;
             let exposure = time.since(since.max(ready));
             expose(indices, array, charges, events, p, latch, exposure)

@@ -14,8 +14,8 @@ use Rattle.time.proofs.Bools.{both}
 use Rattle.time.specs.declared.Time.{Time}
 use Rattle.time.specs.Raw.{raw}
 use Rattle.cell.specs.Cell.{at, FULL, page_bytes, pages, array_bytes, array_cells}
-use Rattle.control.specs.declared.Pending.{Pending}
-use Rattle.control.specs.declared.Pending.TheVariants.{Nothing, Sense}
+use Rattle.control.specs.declared.PendingSense.{PendingSense}
+use Rattle.std.specs.Prelude.{Option, Some, None}
 use Rattle.settle.specs.Pages.{opened, slots_sound}
 use Rattle.settle.proofs.Slots.{Slots, slots-from, opened-le}
 use Rattle.flash.specs.declared.Flash.{Flash}
@@ -52,9 +52,9 @@ same-sizes m s =
 
 -- ---- `validate`
 
-pending-told : (p : Pending) → PendingSound p → pending_placed p ≡ true
-pending-told Nothing h = refl
-pending-told (Sense a t) h = placed-told a 4 h.0 h.1
+pending-told : (p : Option PendingSense) → PendingSound p → pending_placed p ≡ true
+pending-told None h = refl
+pending-told (Some p) h = placed-told p.address 4 h.0 h.1
 
 -- a sound state is valid if its erase register is, and the time
 valid-told : (t : Time) (s : Flash) → Sound s → valid t s ≡ (ltb s.registers.erase 64 && leb (raw s.pulse_since) (raw t))
@@ -70,9 +70,9 @@ valid-told t s h =
     by true = refl
     by false = refl
 
-pending-says : (p : Pending) → pending_placed p ≡ true → PendingSound p
-pending-says Nothing e = tt
-pending-says (Sense a t) e = placed-says a 4 e
+pending-says : (p : Option PendingSense) → pending_placed p ≡ true → PendingSound p
+pending-says None e = tt
+pending-says (Some p) e = placed-says p.address 4 e
 
 -- a valid state with a sound index is sound
 valid-sound : (t : Time) (s : Flash) → valid t s ≡ true → slots_sound s.indices ≡ true → Sound s

@@ -13,7 +13,8 @@ use lib.Dec.{ltb, leb, leb-suc-suc}
 use Rattle.cell.specs.Cell.{at}
 use Rattle.layout.specs.Layout.{word, row, flag_of}
 use Rattle.layout.proofs.Widths.{word-one}
-use Rattle.borsh.specs.Borsh.{Read, got, refused, next, Borsh, int, only, mapped, enum, bool, ◌then◌, none, some, option, read_all, array}
+use Rattle.std.specs.Prelude.{Some, None}
+use Rattle.borsh.specs.Borsh.{Read, got, refused, next, Borsh, int, only, mapped, enum, bool, ◌then◌, option, read_all, array}
 use Rattle.snapshot.specs.Asked.{first}
 use Rattle.snapshot.specs.Places.{end_number, bytes_number}
 
@@ -170,13 +171,13 @@ module _ (xs : List ℕ) (base : ℕ) where
 
 pub option-reads : {xs : List ℕ} {base : ℕ} {A : Type 0} {f : Borsh A} {a n : ℕ} {b : Bool} {c m : ℕ} {v : A} {d : ℕ}
     → Reads xs base bool a n b c → Reads xs base f c m v d
-    → Reads xs base (option f) a (first n (cond b m 0)) (cond b (some v) none) (cond b d c)
+    → Reads xs base (option f) a (first n (cond b m 0)) (cond b (Some v) None) (cond b d c)
 unfolding option
 option-reads {xs} {base} {A} {f} {a} {n} {b} {c} {m} {v} {d} h k = record { told = rw h.told (next-tell _ n _ b _ _ _ (λ e. by b)) }
   where
-    by : (b : Bool) → cond b (next (λ v end. got (some v) end) (f.read (drop (base + c) xs))) (got none (drop (base + c) xs))
-        ≡ tell (cond b m 0) (cond b (some v) none) (drop (base + cond b d c) xs)
-    by true = rw k.told (tell-map some m v _)
+    by : (b : Bool) → cond b (next (λ v end. got (Some v) end) (f.read (drop (base + c) xs))) (got None (drop (base + c) xs))
+        ≡ tell (cond b m 0) (cond b (Some v) None) (drop (base + cond b d c) xs)
+    by true = rw k.told (tell-map Some m v _)
     by false = refl
 
 -- ---- values of one size, one after the other

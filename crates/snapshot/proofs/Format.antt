@@ -17,8 +17,8 @@ use Rattle.control.specs.declared.Mode.{Mode}
 use Rattle.control.specs.declared.Mode.TheVariants.{Active, Subactive, Sleep, Subsleep, Watch, Standby}
 use Rattle.control.specs.declared.Supply.{Supply}
 use Rattle.control.specs.declared.Supply.TheVariants.{Normal, Reduced, Stopped}
-use Rattle.control.specs.declared.Pending.{Pending}
-use Rattle.control.specs.declared.Pending.TheVariants.{Nothing, Sense}
+use Rattle.control.specs.declared.PendingSense.{PendingSense}
+use Rattle.std.specs.Prelude.{Option, Some, None}
 use Rattle.control.specs.Supplies.{supply_number, mode_number}
 use Rattle.cell.specs.Cell.{FULL, page_bytes, page_cells, pages, array_bytes}
 use Rattle.settle.specs.Pages.{holds}
@@ -26,7 +26,7 @@ use Rattle.flash.specs.declared.Flash.{Flash}
 use Rattle.layout.specs.Layout.{supply_of, mode_of, placed}
 use Rattle.layout.specs.Whole.{RowFits, TimeFits, PendingFits, Fits}
 use Rattle.layout.proofs.Accepted.{supply-known, mode-known}
-use Rattle.borsh.specs.Borsh.{int, only, ◌then◌, Option, none, some, array}
+use Rattle.borsh.specs.Borsh.{int, only, ◌then◌, array}
 use Rattle.borsh.proofs.Laws.{Lawful, Wide, Any, ◌and◌, same-lawful, int-lawful, only-lawful, mapped-lawful, enum_lawful, bool_lawful, then-lawful, GoodOption, option-lawful, vec-lawful, numbers-lawful}
 use Rattle.snapshot.specs.Snapshot.{ChargePage, addresses, charge, charge_page, time, pending_in, option_of, pending, supply, mode, controls, latched, supplies, instants, State, state, Contents, snapshot, state_fields, state_of}
 use Rattle.snapshot.proofs.Good.{GoodPage, GoodPages}
@@ -52,13 +52,13 @@ pending-lawful : Lawful PendingFits pending
 unfolding pending
 pending-lawful = mapped-lawful (option-lawful (then-lawful (int-lawful 2) time-lawful)) PendingFits pending_in option_of to from
   where
-    to : (p : Pending) → PendingFits p → GoodOption (Wide 2 and TimeFits) (option_of p) × (pending_in (option_of p) ≡ p)
-    to Nothing h = (tt, refl)
-    to (Sense a t) h = (h, refl)
+    to : (p : Option PendingSense) → PendingFits p → GoodOption (Wide 2 and TimeFits) (option_of p) × (pending_in (option_of p) ≡ p)
+    to None h = (tt, refl)
+    to (Some p) h = (h, refl)
 
     from : (v : Option (ℕ × Time)) → GoodOption (Wide 2 and TimeFits) v → PendingFits (pending_in v) × (option_of (pending_in v) ≡ v)
-    from none h = (tt, refl)
-    from (some v) h = (h, refl)
+    from None h = (tt, refl)
+    from (Some v) h = (h, refl)
 
 supply-lawful : Lawful Any supply
 unfolding supply supply_of

@@ -7,6 +7,7 @@ use Prim.Native.Nat.{ℕ, zero, suc, ◌+◌, ◌*◌, ◌%◌, ◌^◌, ◌<◌
 use native.Mathlib.Omega.{arith}
 use lib.Dec.{eqb}
 use lib.ListN.{length, length-set}
+use Rattle.std.specs.Prelude.{Option, Some, None}
 use Rattle.time.proofs.Bools.{either}
 use Rattle.time.specs.declared.Time.{Time}
 use Rattle.cell.specs.Cell.{at}
@@ -14,8 +15,6 @@ use Rattle.control.specs.Bits.{FENR, FLMCR1, FLPWCR, EBR1, SWE, has, low, verifi
 use Rattle.control.specs.Waits.{reached}
 use Rattle.control.specs.Verify.{sense_due}
 use Rattle.registers.specs.declared.Registers.{Registers}
-use Rattle.registers.specs.declared.OpenPulse.{OpenPulse}
-use Rattle.registers.specs.declared.OpenPulse.TheVariants.{Closed, Open}
 use Rattle.registers.specs.declared.Call.{Call}
 use Rattle.registers.specs.declared.Call.TheVariants.{WriteRegister, Write8, Read8, Read16, Protect, Reset, PowerOff, Environment}
 use Rattle.registers.specs.Access.{settled, control_set, register_set, write_register}
@@ -32,6 +31,7 @@ use Rattle.flash.specs.declared.Flash.{Flash}
 use Rattle.flash.specs.Chip.{Chip, registers, cells, blank_sensed, sensed_after, step_if, step}
 use Rattle.layout.specs.Layout.{row, row_bytes, part, head_of, addresses_of, halves_of, rows_of, state_of, registers_of, encoded, rows_in, decoded}
 use Rattle.layout.specs.Whole.{RowFits}
+use Rattle.registers.specs.declared.Pulse.{Pulse}
 use Rattle.layout.proofs.Packed.{row-shift, length-row_bytes, length-row, unpacked-packed}
 
 -- ---- the index in a record
@@ -80,9 +80,9 @@ module _ (now : Time) (r : Registers) (h : LatchLong r) where
   settled-long : LatchLong (settled now r)
   settled-long = ap length (settled-latch now r) ∙ h
 
-  tripped-long : (o : OpenPulse) → LatchLong (tripped o now (settled now r))
-  tripped-long Closed = settled-long
-  tripped-long (Open p) = settled-long
+  tripped-long : (o : Option Pulse) → LatchLong (tripped o now (settled now r))
+  tripped-long None = settled-long
+  tripped-long (Some p) = settled-long
 
   read-long : LatchLong (read8 now r)
   unfolding read8

@@ -9,8 +9,8 @@ use lib.Seq.{length-take-le}
 use Rattle.time.specs.declared.Time.{Time}
 use Rattle.control.specs.declared.Mode.{Mode}
 use Rattle.control.specs.declared.Supply.{Supply}
-use Rattle.control.specs.declared.Pending.{Pending}
-use Rattle.control.specs.declared.Pending.TheVariants.{Nothing, Sense}
+use Rattle.control.specs.declared.PendingSense.{PendingSense}
+use Rattle.std.specs.Prelude.{Option, Some, None}
 use Rattle.cell.specs.Cell.{page_bytes, page_cells, pages, array_bytes, array_cells}
 use Rattle.settle.specs.Pages.{opened}
 use Rattle.flash.specs.declared.Flash.{Flash}
@@ -27,10 +27,10 @@ length-time : (t : Time) → length (time.write t) ≡ 16
 unfolding time mapped
 length-time t = length-int 16 _
 
-length-pending : (p : Pending) → length (pending.write p) ≡ 1 + 18 * option_byte p
+length-pending : (p : Option PendingSense) → length (pending.write p) ≡ 1 + 18 * option_byte p
 unfolding pending mapped option
-length-pending Nothing = length-bool _
-length-pending (Sense a t) = simp (length-append, length-bool, length-then, length-int, length-time)
+length-pending None = length-bool _
+length-pending (Some p) = simp (length-append, length-bool, length-then, length-int, length-time)
 
 length-supply : (v : Supply) → length (supply.write v) ≡ 1
 unfolding supply

@@ -8,13 +8,12 @@ use native.Mathlib.Omega.{arith}
 use native.Mathlib.Decide.{dec_lt, ℕ_discrete}
 use lib.ListN.{length}
 use lib.Seq.{set_out}
+use Rattle.std.specs.Prelude.{Option, Some, None}
 use Rattle.time.specs.declared.Time.{Time}
 use Rattle.cell.specs.Cell.{at, on_slot}
 use Rattle.cell.proofs.Maps.{length-on_slot, get_or-on_slot-inside, get_or-on_slot-outside}
 use Rattle.registers.specs.declared.Registers.{Registers}
 use Rattle.registers.specs.declared.Pulse.{Pulse}
-use Rattle.registers.specs.declared.OpenPulse.{OpenPulse}
-use Rattle.registers.specs.declared.OpenPulse.TheVariants.{Closed, Open}
 use Rattle.settle.specs.Pages.{Cells, held, cell_at, opened, slot_for, on_page, on_pages}
 use Rattle.settle.specs.Settling.{charged, ruled, resensed, exposure, expose, settled_by, four_sensed, sensed_by}
 use Rattle.settle.proofs.Slots.{SlotsOf, opened-le, opened-set}
@@ -102,11 +101,11 @@ same-exposed p latch (suc l) inv s =
       used = t.used;
     }
 
-pub same-settled : (o : OpenPulse) (latch : List ℕ) (since now : Time) {c c' : Cells} → SlotsOf c → Same c c'
+pub same-settled : (o : Option Pulse) (latch : List ℕ) (since now : Time) {c c' : Cells} → SlotsOf c → Same c c'
     → Same (settled_by o latch since now c) (settled_by o latch since now c')
 unfolding settled_by
-same-settled Closed latch since now inv s = s
-same-settled (Open p) latch since now inv s = same-exposed p latch (exposure p since now) inv s
+same-settled None latch since now inv s = s
+same-settled (Some p) latch since now inv s = same-exposed p latch (exposure p since now) inv s
 
 -- the bytes that a settle senses
 pub same-sensed : (r : Registers) (now : Time) (old : List ℕ) {c c' : Cells} → SlotsOf c → Same c c' → sensed_by r now c' old ≡ sensed_by r now c old

@@ -9,8 +9,8 @@ use native.Mathlib.Omega.{arith}
 use lib.Dec.{eqb}
 use Rattle.time.specs.Raw.{raw, instant}
 use Rattle.time.proofs.Laws.{instant-raw}
-use Rattle.control.specs.declared.Pending.{Pending}
-use Rattle.control.specs.declared.Pending.TheVariants.{Nothing, Sense}
+use Rattle.control.specs.declared.PendingSense.{PendingSense}
+use Rattle.std.specs.Prelude.{Option, Some, None}
 use Rattle.cell.specs.Cell.{at}
 use Rattle.layout.specs.Layout.{word, row, flag_of, supply_of, mode_of}
 use Rattle.layout.proofs.Widths.{word_split, word_small}
@@ -55,12 +55,12 @@ module _ (xs : List ℕ) (small : (k : ℕ) → at xs k < 256) (base : ℕ) wher
       n : ℕ
       n = bytes_number option_limits xs (base + 251)
 
-      sense : Pending
-      sense = Sense (word 2 xs (base + 252)) (time_at xs (base + 254))
+      sense : Option PendingSense
+      sense = Some (record { address = word 2 xs (base + 252); at = time_at xs (base + 254) })
 
       by : (b : Bool) → Reads xs base bool 251 n b 252
           → Reads xs base (pending then array 4 (int 1)) 251 (first n (end_number xs (base + cond b 274 256)))
-          (cond b sense Nothing, row 4 1 (base + cond b 274 256 - 4) xs) (cond b 274 256)
+          (cond b sense None, row 4 1 (base + cond b 274 256 - 4) xs) (cond b 274 256)
       by true h =
           let e : base + 274 - 4 ≡ base + 270 = omega arith in
           let i : ℕ = end_number xs (base + 270) in

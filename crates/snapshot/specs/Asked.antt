@@ -1,13 +1,12 @@
 -- Snapshot writing, snapshot reading and `validate` over lent memory: their refusals and their whole outcome. Document 01, "Order of
 -- checking".
 -- Assumes nothing.
-use Rattle.std.specs.Prelude.{ℕ, zero, suc, ◌≡◌, Bool, true, not, ◌&&◌, List, [], ◌∷◌, leb, ltb, length}
+use Rattle.std.specs.Prelude.{ℕ, zero, suc, ◌≡◌, Bool, true, not, ◌&&◌, List, [], ◌∷◌, leb, ltb, length, Option, Some, None}
 use Rattle.std.proofs.lemmas.List.Edits.{sets}
 use Rattle.time.specs.declared.Time.{Time}
 use Rattle.time.specs.Raw.{raw}
 use Rattle.cell.specs.Cell.{page_bytes}
-use Rattle.control.specs.declared.Pending.{Pending}
-use Rattle.control.specs.declared.Pending.TheVariants.{Nothing, Sense}
+use Rattle.control.specs.declared.PendingSense.{PendingSense}
 use Rattle.flash.specs.declared.Flash.{Flash}
 use Rattle.layout.specs.Layout.{encoded, decoded, flag_byte, control_clear, placed, legible, rows_in, refused3}
 use Rattle.lent.specs.Memory.{Memory, chip_in, check, first_given, record_misfits, misfits, last_second}
@@ -16,9 +15,9 @@ use Rattle.snapshot.specs.Snapshot.{Contents, snapshot, snapshot_of, cells_of, f
 
 -- ---- `validate`
 
-abbrev pub pending_placed : Pending → Bool
-pending_placed Nothing = true
-pending_placed (Sense address ready) = placed address 4
+abbrev pub pending_placed : Option PendingSense → Bool
+pending_placed None = true
+pending_placed (Some sense) = placed sense.address 4
 
 -- Control and erase have no bit that is none; page and pending address are aligned and inside; the last settling is not past the time.
 unfoldable pub valid : Time → Flash → Bool

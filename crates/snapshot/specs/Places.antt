@@ -2,10 +2,10 @@
 -- functions that read a snapshot go by this; that it is what the format's reading gives is a theorem (proofs, Places). Nothing here need be
 -- believed.
 -- Assumes nothing.
-use Rattle.std.specs.Prelude.{ℕ, zero, suc, ◌+◌, ◌-◌, ◌*◌, ◌/◌, List, [], ◌∷◌, ◌++◌, cond, not, ◌&&◌, length, set, take, ltb, leb, eqb}
+use Rattle.std.specs.Prelude.{ℕ, zero, suc, ◌+◌, ◌-◌, ◌*◌, ◌/◌, List, [], ◌∷◌, ◌++◌, cond, not, ◌&&◌, length, set, take, ltb, leb, eqb, Option}
 use Rattle.std.proofs.lemmas.List.Edits.{sets}
 use Rattle.time.specs.declared.Time.{Time}
-use Rattle.control.specs.declared.Pending.{Pending}
+use Rattle.control.specs.declared.PendingSense.{PendingSense}
 use Rattle.cell.specs.Cell.{at, FULL, page_bytes, page_cells, pages, array_bytes}
 use Rattle.registers.specs.declared.Registers.{Registers}
 use Rattle.flash.specs.declared.Flash.{Flash}
@@ -112,7 +112,7 @@ scan_number xs =
 abbrev pub time_at : List ℕ → ℕ → Time
 time_at xs place = record { 0 = word 8 xs (place + 8); 1 = word 8 xs place }
 
-abbrev pub pending_at : List ℕ → ℕ → Pending
+abbrev pub pending_at : List ℕ → ℕ → Option PendingSense
 pending_at xs place = pending_of (at xs (place + 251)) (word 2 xs (place + 252)) (time_at xs (place + 254))
 
 unfoldable pub registers_at : List ℕ → ℕ → Registers

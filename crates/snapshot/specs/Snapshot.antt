@@ -1,20 +1,19 @@
 -- The snapshot: the array, its charge pages and its state in the Borsh format, fields in the struct's order. Document 01, "Verify sensing,
 -- looking, snapshot" and "Order of checking", the rows "snapshot".
 -- Assumes nothing.
-use Rattle.std.specs.Prelude.{ℕ, zero, suc, ◌+◌, ◌*◌, ◌/◌, List, [], ◌∷◌, ◌++◌, Bool, cond, not, ◌&&◌, take, drop, set, leb, eqb}
+use Rattle.std.specs.Prelude.{ℕ, zero, suc, ◌+◌, ◌*◌, ◌/◌, List, [], ◌∷◌, ◌++◌, Bool, cond, not, ◌&&◌, take, drop, set, leb, eqb, Option, Some, None}
 use Rattle.time.specs.declared.Time.{Time}
 use Rattle.time.specs.Raw.{raw, instant}
 use Rattle.control.specs.declared.Mode.{Mode}
 use Rattle.control.specs.declared.Supply.{Supply}
-use Rattle.control.specs.declared.Pending.{Pending}
-use Rattle.control.specs.declared.Pending.TheVariants.{Nothing, Sense}
+use Rattle.control.specs.declared.PendingSense.{PendingSense}
 use Rattle.control.specs.Supplies.{supply_number, mode_number}
 use Rattle.cell.specs.Cell.{FULL, page_bytes, page_cells, pages, array_bytes}
 use Rattle.settle.specs.Pages.{opened, holds}
 use Rattle.flash.specs.declared.Flash.{Flash}
 use Rattle.flash.specs.Chip.{Chip, no_pages}
 use Rattle.layout.specs.Layout.{option_byte, supply_of, mode_of, placed}
-use Rattle.borsh.specs.Borsh.{Borsh, int, bool, enum, only, mapped, ◌then◌, Option, none, some, option, array, vec}
+use Rattle.borsh.specs.Borsh.{Borsh, int, bool, enum, only, mapped, ◌then◌, option, array, vec}
 
 -- ---- charge pages: an address and 1,024 charges
 
@@ -38,15 +37,15 @@ charge_page before = only (λ a. placed a page_bytes && not (holds a (addresses 
 unfoldable pub time : Borsh Time
 time = mapped instant raw (int 16)
 
-abbrev pub pending_in : Option (ℕ × Time) → Pending
-pending_in none = Nothing
-pending_in (some p) = Sense p.0 p.1
+abbrev pub pending_in : Option (ℕ × Time) → Option PendingSense
+pending_in None = None
+pending_in (Some p) = Some (record { address = p.0; at = p.1 })
 
-abbrev pub option_of : Pending → Option (ℕ × Time)
-option_of Nothing = none
-option_of (Sense address ready) = some (address, ready)
+abbrev pub option_of : Option PendingSense → Option (ℕ × Time)
+option_of None = None
+option_of (Some sense) = Some (sense.address, sense.at)
 
-unfoldable pub pending : Borsh Pending
+unfoldable pub pending : Borsh (Option PendingSense)
 pending = mapped pending_in option_of (option (int 2 then time))
 
 unfoldable pub supply : Borsh Supply
@@ -87,7 +86,7 @@ instants = time then time then time then time then time then time then time
 
 -- after bytes and charges: those, verify_pending, sensed
 abbrev pub State : Type 0
-State = Controls × (Latched × (Supplies × (Instants × (Pending × List ℕ))))
+State = Controls × (Latched × (Supplies × (Instants × (Option PendingSense × List ℕ))))
 
 unfoldable pub state : Borsh State
 state = controls then latched then supplies then instants then pending then array 4 (int 1)
@@ -143,7 +142,7 @@ unfoldable pub snapshot_of : Chip → List ℕ
 snapshot_of k = snapshot.write (contents_of k)
 
 -- 49,412 bytes, 8,194 more a page, 18 more with a pending sense; that they are so many is a theorem
-abbrev pub snapshot_length : ℕ → Pending → ℕ
+abbrev pub snapshot_length : ℕ → Option PendingSense → ℕ
 snapshot_length n p = 49412 + 8194 * n + 18 * option_byte p
 
 -- ---- and back

@@ -13,7 +13,7 @@ use borrow.Author.Tests.{ltb-true, ltb-false, eqb-true, eqb-false, lt-ltb, le-lt
 use Rattle.time.specs.Raw.{raw, span, instant, duration, micros, later, plus, added, after, since}
 use Rattle.time.specs.declared.Time.{Time}
 use Rattle.time.specs.declared.Duration.{Duration}
-use Rattle.time.specs.declared.Sum.TheVariants.{At, Overflow}
+use Rattle.std.specs.Prelude.{Some, None}
 
 -- two halves over any base
 module _ (w a b c d : ℕ) where
@@ -157,15 +157,15 @@ pub raw-fits : (t : Time) → t.0 < 2 ^ 64 → t.1 < 2 ^ 64 → raw t < 2 ^ 128
 unfolding raw
 raw-fits t = digits_lt
 
-pub is-added : (t : Time) (d : Duration) (u : Time) (k : ℕ) → u.0 < 2 ^ 64 → u.1 < 2 ^ 64 → u.0 ≡ t.0 + d.0 + k → u.1 + k * 2 ^ 64 ≡ t.1 + d.1 → At u ≡ added t d
+pub is-added : (t : Time) (d : Duration) (u : Time) (k : ℕ) → u.0 < 2 ^ 64 → u.1 < 2 ^ 64 → u.0 ≡ t.0 + d.0 + k → u.1 + k * 2 ^ 64 ≡ t.1 + d.1 → Some u ≡ added t d
 unfolding added plus
-is-added t d u k h l e f = rw (sym (sum t d u k e f), lt-ltb (raw u) (2 ^ 128) (raw-fits u h l)) (ap At (sym (instant-raw u l)))
+is-added t d u k h l e f = rw (sym (sum t d u k e f), lt-ltb (raw u) (2 ^ 128) (raw-fits u h l)) (ap Some (sym (instant-raw u l)))
 
 sum_over : (t : Time) (d : Duration) (k : ℕ) → 2 ^ 64 ≤ t.0 + d.0 + k → k * 2 ^ 64 ≤ t.1 + d.1 → 2 ^ 128 ≤ raw t + span d
 unfolding raw span
 sum_over t d = halves-over (2 ^ 64) t.0 t.1 d.0 d.1
 
-pub not-added : (t : Time) (d : Duration) (k : ℕ) → 2 ^ 64 ≤ t.0 + d.0 + k → k * 2 ^ 64 ≤ t.1 + d.1 → Overflow ≡ added t d
+pub not-added : (t : Time) (d : Duration) (k : ℕ) → 2 ^ 64 ≤ t.0 + d.0 + k → k * 2 ^ 64 ≤ t.1 + d.1 → None ≡ added t d
 unfolding added
 not-added t d k h l = rw (le-ltb (raw t + span d) (2 ^ 128) (sum_over t d k h l))
 
@@ -177,7 +177,7 @@ pub sum_fits : (t : Time) (d : Duration) → t.0 < 2 ^ 64 - 1 → t.1 < 2 ^ 64 �
 unfolding raw
 sum_fits t d h = halves-room (2 ^ 64) t.0 t.1 (span d) (omega arith)
 
-pub after-added : (now : Time) (n : ℕ) → now.0 < 2 ^ 64 - 1 → now.1 < 2 ^ 64 → n < 1000000 → added now (micros n) ≡ At (after now n)
+pub after-added : (now : Time) (n : ℕ) → now.0 < 2 ^ 64 - 1 → now.1 < 2 ^ 64 → n < 1000000 → added now (micros n) ≡ Some (after now n)
 unfolding added after
 after-added now n h k l = rw (lt-ltb (raw now + span (micros n)) (2 ^ 128) (sum_fits now (micros n) h k (micros-short n l)))
 

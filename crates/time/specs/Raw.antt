@@ -1,10 +1,8 @@
 -- Instants and lengths of time as natural numbers of raw units, 2^-64 s. Document 01, "Time".
 -- Assumes nothing.
-use Rattle.std.specs.Prelude.{ℕ, ◌+◌, ◌-◌, ◌*◌, ◌/◌, ◌%◌, ◌^◌, ◌<◌, cond, ltb}
+use Rattle.std.specs.Prelude.{ℕ, ◌+◌, ◌-◌, ◌*◌, ◌/◌, ◌%◌, ◌^◌, ◌<◌, cond, ltb, Option, Some, None}
 use Rattle.time.specs.declared.Time.{Time}
 use Rattle.time.specs.declared.Duration.{Duration}
-use Rattle.time.specs.declared.Sum.{Sum}
-use Rattle.time.specs.declared.Sum.TheVariants.{At, Overflow}
 
 -- An instant is 64-bit whole seconds and a 64-bit fraction; so is a length of time.
 unfoldable pub raw : Time → ℕ
@@ -34,9 +32,9 @@ later a b = cond (ltb (raw a) (raw b)) b a
 unfoldable pub plus : Time → Duration → Time
 plus t d = instant (raw t + span d)
 
--- the same where it has 128 bits
-unfoldable pub added : Time → Duration → Sum
-added t d = cond (ltb (raw t + span d) (2 ^ 128)) (At (plus t d)) Overflow
+-- the same where it has 128 bits, or none
+unfoldable pub added : Time → Duration → Option Time
+added t d = cond (ltb (raw t + span d) (2 ^ 128)) (Some (plus t d)) None
 
 -- Whole seconds 2^64-1 are refused; before them every wait below a second has its sum.
 abbrev pub BeforeLastSecond : Time → Type 0

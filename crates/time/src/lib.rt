@@ -13,13 +13,6 @@ pub struct Time(pub u64, pub u64);
 #[derive(Clone, Copy)]
 pub struct Duration(pub u64, pub u64);
 
-// A sum of an instant and a length, or none where it would pass the last instant.
-#[derive(Clone, Copy)]
-pub enum Sum {
-    At(Time),
-    Overflow,
-}
-
 const MICROS: u64 = 1_000_000;
 
 impl Time {
@@ -46,22 +39,22 @@ impl Time {
         if self.earlier(other) { other } else { self }
     }
 
-    // The instant a length of time after this one.
-    pub fn checked_add(self, d: Duration) -> Sum
+    // The instant a length of time after this one, or none where it would pass the last instant.
+    pub fn checked_add(self, d: Duration) -> Option<Time>
         ensures { result ≡ added self d }
     {
         let low = u64::MAX - self.1;
         let high = u64::MAX - self.0;
         if high < d.0 {
-            return Sum::Overflow;
+            return None;
         }
         if low < d.1 {
             if high == d.0 {
-                return Sum::Overflow;
+                return None;
             }
-            return Sum::At(Time(self.0 + d.0 + 1, d.1 - (low + 1)));
+            return Some(Time(self.0 + d.0 + 1, d.1 - (low + 1)));
         }
-        Sum::At(Time(self.0 + d.0, self.1 + d.1))
+        Some(Time(self.0 + d.0, self.1 + d.1))
     }
 
     // The instant n microseconds after this one, for a wait below one second.
@@ -70,10 +63,7 @@ impl Time {
         ensures { result ≡ after self n }
     {
         let sum = self.checked_add(Duration::from_micros(n));
-        match sum {
-            Sum::At(t) => t,
-            Sum::Overflow => self,
-        }
+        sum.unwrap_or(self)
     }
 
     // The time from an earlier instant to this one, 0 if negative.

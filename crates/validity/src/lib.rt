@@ -8,7 +8,7 @@ ghost use Rattle.snapshot.specs.Asked.{pending_placed, valid, valid_refusal, val
 use checks::{PAGE_BYTES, legible, placed};
 use coding::read;
 use coding::state::flag_byte;
-use control::Pending;
+use control::PendingSense;
 use flash::Flash;
 use layout::RECORD_LEN;
 use lent::checking::last_second;
@@ -16,12 +16,12 @@ use see::Seen;
 use time::Time;
 
 // A pending sense is of four aligned bytes inside the array.
-fn pending_placed(pending: Pending) -> bool
+fn pending_placed(pending: Option<PendingSense>) -> bool
     ensures { result ≡ pending_placed pending }
 {
     match pending {
-        Pending::Nothing => true,
-        Pending::Sense(address, _) => placed(address, 4),
+        None => true,
+        Some(sense) => placed(sense.address, 4),
     }
 }
 

@@ -20,7 +20,7 @@ returns-in-Read16 c = rw (c.in-Read16.is, c.normal-in-Read16.ensures)
 
 pub returns-in-Protect : goal.returns-in-Protect
 unfolding settles
-returns-in-Protect c = rw (c.in-Protect.is, c.is_open.ensures, c.pulse.ensures)
+returns-in-Protect c = rw c.in-Protect.is (cc)
 
 pub returns-in-Reset : goal.returns-in-Reset
 unfolding settles

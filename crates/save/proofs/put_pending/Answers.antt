@@ -13,34 +13,34 @@ use Rattle.save.proofs.put_pending.Goals as goal
 
 pub put16-requires : goal.put16-requires
 put16-requires c =
-    let h = rw c.in-Sense.is at c.requires in
+    let h = rw c.in-Some.is at c.requires in
     simp length-set (omega arith)
 
 pub put_halves-requires : goal.put_halves-requires
 put_halves-requires c =
-    let h = rw c.in-Sense.is at c.requires in
+    let h = rw c.in-Some.is at c.requires in
     omega (arith, length-set c.args.out.now c.args.at 1)
 
-pub returns-in-Nothing : goal.returns-in-Nothing
-returns-in-Nothing c =
+pub returns-in-None : goal.returns-in-None
+returns-in-None c =
     let x = c.args in
-    rw (c.in-Nothing.is, nothing-row) (omega arith, put_one x.out.now x.at 0 (omega arith) (omega arith))
+    rw (c.in-None.is, nothing-row) (omega arith, put_one x.out.now x.at 0 (omega arith) (omega arith))
 
-pub shape_of-out-in-Sense : goal.shape_of-out-in-Sense
-shape_of-out-in-Sense c =
+pub shape_of-out-in-Some : goal.shape_of-out-in-Some
+shape_of-out-in-Some c =
     let x = c.args in
     omega (arith, length-set x.out.now x.at 1)
 
-pub returns-in-Sense : goal.returns-in-Sense
-returns-in-Sense c =
+pub returns-in-Some : goal.returns-in-Some
+returns-in-Some c =
     let x = c.args in
     let k = x.at in
     let s = x.out.now in
-    let a = c.in-Sense.address in
-    let t = c.in-Sense.ready in
+    let a = c.in-Some.due.address in
+    let t = c.in-Some.due.at in
     let m = c.put16.new.s in
     let n = c.put_halves.new.s in
     let p = put_one s k 1 (omega arith) (omega arith) in
     let q = after (k + 1) (k + 1 + 2) (k + 3) (set s k 1) m _ (bytes 2 a) c.put16.ensures p (omega arith) in
     let r = after (k + 3) (k + 3 + 16) (k + 19) m n _ (row_bytes 8 (t.1 ∷ t.0 ∷ [])) c.put_halves.ensures q (omega arith) in
-    rw (c.in-Sense.is, sense-row a t (omega (arith, c.in-Sense.known_told-1-own.given))) (omega arith, r ∙ simp append_assoc)
+    rw (c.in-Some.is, sense-row a t (omega (arith, c.in-Some.known_told-1-own.given))) (omega arith, r ∙ simp append_assoc)

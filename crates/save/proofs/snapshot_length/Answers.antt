@@ -3,8 +3,8 @@
 use native.Mathlib.Omega.{arith}
 use Rattle.save.proofs.snapshot_length.Goals as goal
 
-pub returns-in-Nothing : goal.returns-in-Nothing
-returns-in-Nothing c = rw c.in-Nothing.is (omega arith)
+pub returns-in-None : goal.returns-in-None
+returns-in-None c = rw c.in-None.is (omega arith)
 
-pub returns-in-Sense : goal.returns-in-Sense
-returns-in-Sense c = rw c.in-Sense.is (omega arith)
+pub returns-in-Some : goal.returns-in-Some
+returns-in-Some c = rw c.in-Some.is (omega arith)

@@ -11,19 +11,19 @@ use Rattle.settling.proofs.settle.Goals as goal
 pub expose-requires : goal.expose-requires
 expose-requires c =
     let p = c.requires in
-    let o = c.in-Open.is in
+    let o = c.in-Some.is in
     (p.0, p.1, p.2, p.3, rw o at p.4, rw o at p.5)
 
-pub returns-in-Closed : goal.returns-in-Closed
+pub returns-in-None : goal.returns-in-None
 unfolding settled_by
-returns-in-Closed c =
+returns-in-None c =
     let x = c.args in
-    rw c.in-Closed.is (left-same (cells x.indices.now x.array.now x.charges.now) x.events.now)
+    rw c.in-None.is (left-same (cells x.indices.now x.array.now x.charges.now) x.events.now)
 
-pub returns-in-Open : goal.returns-in-Open
+pub returns-in-Some : goal.returns-in-Some
 unfolding settled_by exposure
-returns-in-Open c =
+returns-in-Some c =
     let x = c.args in
-    let from = later x.since c.in-Open.p.ready in
+    let from = later x.since c.in-Some.p.ready in
     let e : span c.since-exposure.result ≡ raw x.time - raw from = rw (c.since-exposure.ensures, c.max.ensures) (span-since x.time from) in
-    rw (c.in-Open.is, ← e) c.expose.ensures
+    rw (c.in-Some.is, ← e) c.expose.ensures

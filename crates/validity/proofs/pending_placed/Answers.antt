@@ -2,5 +2,5 @@
 -- Assumes nothing.
 use Rattle.validity.proofs.pending_placed.Goals as goal
 
-pub returns-in-Sense : goal.returns-in-Sense
-returns-in-Sense c = rw c.in-Sense.is c.placed.ensures
+pub returns-in-Some : goal.returns-in-Some
+returns-in-Some c = rw c.in-Some.is c.placed.ensures

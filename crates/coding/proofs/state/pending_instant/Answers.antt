@@ -2,5 +2,5 @@
 -- Assumes nothing.
 use Rattle.coding.proofs.state.pending_instant.Goals as goal
 
-pub returns-in-Nothing : goal.returns-in-Nothing
-returns-in-Nothing c = rw c.in-Nothing.is
+pub returns-in-None : goal.returns-in-None
+returns-in-None c = rw c.in-None.is

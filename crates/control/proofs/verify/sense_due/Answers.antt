@@ -2,5 +2,5 @@
 -- Assumes nothing.
 use Rattle.control.proofs.verify.sense_due.Goals as goal
 
-pub returns-in-Sense : goal.returns-in-Sense
-returns-in-Sense c = rw (c.supply_number.ensures, c.reached.ensures, c.in-Sense.is)
+pub returns-in-Some : goal.returns-in-Some
+returns-in-Some c = rw (c.supply_number.ensures, c.reached.ensures, c.in-Some.is)

@@ -5,11 +5,11 @@ use Rattle.time.specs.Raw.{span}
 use Rattle.settle.specs.Settling.{settled_by, expose, exposure}
 use Rattle.look.proofs.looking.view_at.Goals as goal
 
-pub returns-in-Closed : goal.returns-in-Closed
+pub returns-in-None : goal.returns-in-None
 unfolding settled_by expose span
-returns-in-Closed c = λ latch k. rw (← c.pulse-open.ensures, c.in-Closed.is)
+returns-in-None c = λ latch k. rw (← c.pulse-open.ensures, c.in-None.is)
 
-pub returns-in-Open : goal.returns-in-Open
+pub returns-in-Some : goal.returns-in-Some
 unfolding settled_by exposure
-returns-in-Open c =
-    λ latch k. rw (c.since.ensures, c.max.ensures, span-since, ← c.pulse-open.ensures, c.in-Open.is)
+returns-in-Some c =
+    λ latch k. rw (c.since.ensures, c.max.ensures, span-since, ← c.pulse-open.ensures, c.in-Some.is)

@@ -12,30 +12,30 @@ returns-then-same_pulse c = let e = sym c.same_pulse.ensures ∙ c.if-same_pulse
 pub returns-then-p-eq0 : goal.returns-then-p-eq0
 unfolding ended end_of
 returns-then-p-eq0 c =
-    let e = sym c.same_pulse.ensures ∙ c.if-same_pulse.false in rw (e, c.in-Open.is, eq-eqb _ 0 c.if-p-eq0.true) (refl, omega arith)
+    let e = sym c.same_pulse.ensures ∙ c.if-same_pulse.false in rw (e, c.in-Some.is, eq-eqb _ 0 c.if-p-eq0.true) (refl, omega arith)
 
 pub end_word-requires : goal.end_word-requires
 end_word-requires c =
-    rw c.in-Open.is at c.requires.0
+    rw c.in-Some.is at c.requires.0
 
 pub offset_bounds-events-count : goal.offset_bounds-events-count
 offset_bounds-events-count c =
-    let g = rw c.in-Open.is at c.requires.1 in let h = g (omega arith) in omega arith
+    let g = rw c.in-Some.is at c.requires.1 in let h = g (omega arith) in omega arith
 
 pub bounds-events-count : goal.bounds-events-count
 bounds-events-count c =
-    let g = rw c.in-Open.is at c.requires.1 in g (omega arith)
+    let g = rw c.in-Some.is at c.requires.1 in g (omega arith)
 
 pub overflow_add-result : goal.overflow_add-result
 overflow_add-result c =
-    let g = rw c.in-Open.is at c.requires.1 in let h = g (omega arith) in omega arith
+    let g = rw c.in-Some.is at c.requires.1 in let h = g (omega arith) in omega arith
 
-pub returns-in-Closed : goal.returns-in-Closed
+pub returns-in-None : goal.returns-in-None
 unfolding ended end_of
-returns-in-Closed c =
-    let e = sym c.same_pulse.ensures ∙ c.if-same_pulse.false in rw (e, c.in-Closed.is) (refl, omega arith)
+returns-in-None c =
+    let e = sym c.same_pulse.ensures ∙ c.if-same_pulse.false in rw (e, c.in-None.is) (refl, omega arith)
 
 pub returns-else-p-eq0 : goal.returns-else-p-eq0
 unfolding ended end_of
 returns-else-p-eq0 c =
-    let e = sym c.same_pulse.ensures ∙ c.if-same_pulse.false in rw (e, c.in-Open.is, ne_eqb _ 0 c.if-p-eq0.false) (rw c.end_word.ensures, omega arith)
+    let e = sym c.same_pulse.ensures ∙ c.if-same_pulse.false in rw (e, c.in-Some.is, ne_eqb _ 0 c.if-p-eq0.false) (rw c.end_word.ensures, omega arith)

@@ -3,19 +3,19 @@ use Rattle.settle.specs.Settling.{same_pulse}
 use borrow.Author.Rules.{rules}
 use Rattle.parts.proofs.ending.same_pulse.Goals as goal
 
-pub returns-in-Open-b-2 : goal.returns-in-Open-b-2
+pub returns-in-Some-b-2 : goal.returns-in-Some-b-2
 unfolding same_pulse
-returns-in-Open-b-2 c =
-    rw (c.in-Open.is, c.in-Open-b-2.is, c.same_direction.ensures)
+returns-in-Some-b-2 c =
+    rw (c.in-Some.is, c.in-Some-b-2.is, c.same_direction.ensures)
 
-pub returns-in-Closed-b : goal.returns-in-Closed-b
+pub returns-in-None-b : goal.returns-in-None-b
 unfolding same_pulse
-returns-in-Closed-b c = search rules
+returns-in-None-b c = search rules
 
-pub returns-in-Closed-b-2 : goal.returns-in-Closed-b-2
+pub returns-in-None-b-2 : goal.returns-in-None-b-2
 unfolding same_pulse
-returns-in-Closed-b-2 c = search rules
+returns-in-None-b-2 c = search rules
 
-pub returns-in-Open-b : goal.returns-in-Open-b
+pub returns-in-Some-b : goal.returns-in-Some-b
 unfolding same_pulse
-returns-in-Open-b c = search rules
+returns-in-Some-b c = search rules

@@ -1,14 +1,13 @@
--- `registers::Registers::protect` meets its contract: each arm knows the pulse, by which the definition computes. Assumes
--- nothing.
+-- `registers::Registers::protect` meets its contract: whether a pulse is open is the definition's test. Assumes nothing.
+use mathlib.Core.Path.{sym, ◌∙◌}
 use Rattle.registers.specs.Pulses.{protect}
-use mathlib.Core.Path.{sym}
 use Rattle.registers.proofs.Registers.protect.Goals as goal
 
-pub returns-in-Closed : goal.returns-in-Closed
+pub returns-then-is_some : goal.returns-then-is_some
 unfolding protect
-returns-in-Closed c = rw (sym c.pulse-pulse.ensures, c.in-Closed.is)
+returns-then-is_some c =
+    rw (c.tripped.ensures, c.settled.ensures, ← c.pulse-pulse.ensures, sym c.is_some.ensures ∙ c.if-is_some.true)
 
-pub returns-in-Open : goal.returns-in-Open
+pub returns : goal.returns
 unfolding protect
-returns-in-Open c =
-    rw (sym c.pulse-pulse.ensures, c.in-Open.is, c.tripped.ensures, c.settled.ensures)
+returns c = rw (← c.pulse-pulse.ensures, sym c.is_some.ensures ∙ c.if-is_some.false)

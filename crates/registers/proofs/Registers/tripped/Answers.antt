@@ -14,11 +14,11 @@ wait-short Erase = lit< tt
 
 pub after-requires : goal.after-requires
 after-requires c =
-    (c.requires, rw c.trip_wait.ensures (wait-short c.in-Open.p.direction))
+    (c.requires, rw c.trip_wait.ensures (wait-short c.in-Some.p.direction))
 
-pub returns-in-Closed : goal.returns-in-Closed
-returns-in-Closed c = rw c.in-Closed.is
+pub returns-in-None : goal.returns-in-None
+returns-in-None c = rw c.in-None.is
 
-pub returns-in-Open : goal.returns-in-Open
-returns-in-Open c =
-    rw (c.in-Open.is, c.max-recovery.ensures, c.after.ensures, c.trip_wait.ensures)
+pub returns-in-Some : goal.returns-in-Some
+returns-in-Some c =
+    rw (c.in-Some.is, c.max-recovery.ensures, c.after.ensures, c.trip_wait.ensures)
