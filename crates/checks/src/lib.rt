@@ -9,8 +9,8 @@ ghost use Rattle.layout.specs.Layout.{record_length, head_known, nothing_clear, 
 use crate::slots::slots_sound;
 use cell::{FLASH_SIZE, PAGE, PAGES};
 use layout::{ADDRESSES, INDICES, PENDING_INSTANT};
-use rows::numbers::get16;
-use rows::{get_bytes, get_halves, get_words};
+use rows::get_row;
+use rows::numbers::Number;
 use time::Time;
 
 // A page's bytes and the array's end, as an address has them.
@@ -53,13 +53,13 @@ pub fn legible(record: &[u8]) -> bool
     ensures { result ≡ legible (rows_in «record».now) }
 {
     let mut head = [0u8; 10];
-    get_bytes(record, 0, &mut head);
+    get_row(record, 0, &mut head);
     let mut addresses = [0u16; 2];
-    get_words(record, ADDRESSES, &mut addresses);
+    get_row(record, ADDRESSES, &mut addresses);
     let mut instant = [0u64; 2];
-    get_halves(record, PENDING_INSTANT, &mut instant);
+    get_row(record, PENDING_INSTANT, &mut instant);
     let mut indices = [0u16; PAGES];
-    get_words(record, INDICES, &mut indices);
+    get_row(record, INDICES, &mut indices);
     head_known(head)
         & nothing_clear(head[9], addresses[1], Time(instant[0], instant[1]))
         & slots_sound(&indices)
@@ -70,8 +70,8 @@ pub fn in_range(record: &[u8]) -> bool
     requires { length «record».now ≡ record_length }
     ensures { result ≡ in_range (rows_in «record».now) }
 {
-    let page = get16(record, ADDRESSES);
-    let address = get16(record, ADDRESSES + 2);
+    let page = u16::get(record, ADDRESSES);
+    let address = u16::get(record, ADDRESSES + 2);
     (record[0] < 128) & placed(page, PAGE_BYTES) & placed(address, 4)
 }
 

@@ -19,10 +19,8 @@ pub fn slots_sound(indices: &[u16]) -> bool
         return true;
     }
     let mut marked = [false; ENTRIES];
-    let mut i = PAGES;
-    while 0 < i {
-        i -= 1;
-        let entry = indices[i] as usize;
+    for i in (0..PAGES).rev() {
+        let entry = usize::from(indices[i]);
         if used < entry {
             return false;
         }

@@ -11,7 +11,7 @@ use cell::{PAGE, PAGES};
 use flash::Flash;
 use layout::{ADDRESSES, HALVES, INDICES, LATCH, SENSED};
 use registers::Registers;
-use rows::{get_bytes, get_halves, get_words, put_bytes, put_halves, put_words};
+use rows::{get_row, put_row};
 use time::Time;
 
 // The state that a record holds.
@@ -20,17 +20,17 @@ pub fn read(record: &[u8]) -> Flash
     ensures { result ≡ decoded «record».now }
 {
     let mut head = [0u8; 10];
-    get_bytes(record, 0, &mut head);
+    get_row(record, 0, &mut head);
     let mut addresses = [0u16; 2];
-    get_words(record, ADDRESSES, &mut addresses);
+    get_row(record, ADDRESSES, &mut addresses);
     let mut halves = [0u64; 16];
-    get_halves(record, HALVES, &mut halves);
+    get_row(record, HALVES, &mut halves);
     let mut latch = [0u8; PAGE];
-    get_bytes(record, LATCH, &mut latch);
+    get_row(record, LATCH, &mut latch);
     let mut sensed = [0u8; 4];
-    get_bytes(record, SENSED, &mut sensed);
+    get_row(record, SENSED, &mut sensed);
     let mut indices = [0u16; PAGES];
-    get_words(record, INDICES, &mut indices);
+    get_row(record, INDICES, &mut indices);
     let registers = registers_of(head, addresses, halves, latch);
     Flash {
         registers: registers,
@@ -48,9 +48,9 @@ fn put_scalars(record: &mut [u8], registers: Registers, since: Time)
     let head = head_of(registers);
     let addresses = addresses_of(registers);
     let halves = halves_of(registers, since);
-    put_bytes(record, 0, &head);
-    put_words(record, ADDRESSES, &addresses);
-    put_halves(record, HALVES, &halves);
+    put_row(record, 0, &head);
+    put_row(record, ADDRESSES, &addresses);
+    put_row(record, HALVES, &halves);
 }
 
 // A state's record.
@@ -63,7 +63,7 @@ pub fn write(record: &mut [u8], flash: Flash)
     let sensed = flash.sensed;
     let indices = flash.indices;
     put_scalars(record, registers, flash.pulse_since);
-    put_bytes(record, LATCH, &latch);
-    put_bytes(record, SENSED, &sensed);
-    put_words(record, INDICES, &indices);
+    put_row(record, LATCH, &latch);
+    put_row(record, SENSED, &sensed);
+    put_row(record, INDICES, &indices);
 }

@@ -5,6 +5,7 @@ ghost use Rattle.lent.specs.Looked.{answered};
 ghost use Rattle.snapshot.specs.Snapshot.{snapshot_of};
 ghost use Rattle.snapshot.specs.Asked.{valid_refusal, valid_answer, write_refusal, written_out, read_refusal, memory_read, Left};
 
+use refusal::told;
 use restore::read_snapshot;
 use save::write_snapshot;
 use time::Time;
@@ -16,11 +17,13 @@ use validity::see_valid;
 pub extern "C" fn flash_validate(record: &[u8], seconds: u64, fraction: u64, valid: &mut u8) -> u32
     ensures { (result ≡ valid_refusal «record».now (record { 0 = seconds; 1 = fraction })) × (valid.new ≡ answered result (valid_answer «record».now (record { 0 = seconds; 1 = fraction })) valid.old) }
 {
-    let seen = see_valid(record, Time(seconds, fraction));
-    if seen.number == 0 {
-        *valid = seen.value;
+    match see_valid(record, Time(seconds, fraction)) {
+        Ok(is_valid) => {
+            *valid = u8::from(is_valid);
+            0
+        }
+        Err(refusal) => u32::from(refusal),
     }
-    seen.number
 }
 
 // The snapshot, at the beginning of the output, and its length.
@@ -34,11 +37,13 @@ pub extern "C" fn flash_write_snapshot(
 ) -> u32
     ensures { (result ≡ write_refusal (length out.old) (record { bytes = «record».now; array = array.now; charges = charges.now })) × (out.new ≡ written_out result (record { bytes = «record».now; array = array.now; charges = charges.now }) out.old) × (len.new ≡ answered result (length (snapshot_of (chip_in (record { bytes = «record».now; array = array.now; charges = charges.now })))) len.old) }
 {
-    let written = write_snapshot(record, array, charges, out);
-    if written.number == 0 {
-        *len = written.length as u64;
+    match write_snapshot(record, array, charges, out) {
+        Ok(length) => {
+            *len = length as u64;
+            0
+        }
+        Err(refusal) => u32::from(refusal),
     }
-    written.number
 }
 
 // A snapshot taken into lent memory, or refused and nothing changed.
@@ -53,5 +58,11 @@ pub extern "C" fn flash_read_snapshot(
 ) -> u32
     ensures { (result ≡ read_refusal (record { 0 = seconds; 1 = fraction }) bytes.entry.now (record { bytes = «record».old; array = array.old; charges = charges.old })) × Left (memory_read result bytes.entry.now (record { bytes = «record».old; array = array.old; charges = charges.old })) «record».new array.new charges.new }
 {
-    read_snapshot(bytes, record, array, charges, Time(seconds, fraction))
+    told(read_snapshot(
+        bytes,
+        record,
+        array,
+        charges,
+        Time(seconds, fraction),
+    ))
 }

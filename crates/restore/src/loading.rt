@@ -9,8 +9,8 @@ use coding::state::{mode_of, supply_of};
 use control::PendingSense;
 use flash::Flash;
 use registers::Registers;
-use rows::numbers::{get16, get64};
-use rows::{get_bytes, get_halves};
+use rows::get_row;
+use rows::numbers::Number;
 use scan::state_length;
 use snapshot::page_at;
 use time::Time;
@@ -20,8 +20,8 @@ fn time_at(bytes: &[u8], at: usize) -> Time
     requires { at + 16 ≤ length bytes.now }
     ensures { result ≡ time_at bytes.now at }
 {
-    let low = get64(bytes, at);
-    let high = get64(bytes, at + 8);
+    let low = u64::get(bytes, at);
+    let high = u64::get(bytes, at + 8);
     Time(high, low)
 }
 
@@ -31,7 +31,7 @@ fn pending_at(bytes: &[u8], at: usize) -> Option<PendingSense>
     ensures { (result ≡ pending_at bytes.now at) × (at + 256 ≤ length bytes.now) }
 {
     if bytes[at + 251] == 1 {
-        let address = get16(bytes, at + 252);
+        let address = u16::get(bytes, at + 252);
         let ready = time_at(bytes, at + 254);
         return Some(PendingSense { address, at: ready });
     }
@@ -44,7 +44,7 @@ fn registers_at(bytes: &[u8], at: usize) -> Registers
 {
     let pending = pending_at(bytes, at);
     let mut latch = [0u8; PAGE];
-    get_bytes(bytes, at + 5, &mut latch);
+    get_row(bytes, at + 5, &mut latch);
     Registers {
         control: bytes[at],
         error: bytes[at + 1] == 1,
@@ -52,7 +52,7 @@ fn registers_at(bytes: &[u8], at: usize) -> Registers
         enabled: bytes[at + 3] == 1,
         power_down_disabled: bytes[at + 4] == 1,
         latch: latch,
-        page: get16(bytes, at + 133),
+        page: u16::get(bytes, at + 133),
         supply: supply_of(bytes[at + 135]),
         oscillator: bytes[at + 136] == 1,
         mode: mode_of(bytes[at + 137]),
@@ -75,7 +75,7 @@ pub fn flash_at(bytes: &[u8], at: usize, indices: [u16; PAGES]) -> Flash
     let registers = registers_at(bytes, at);
     let since = time_at(bytes, at + 219);
     let mut sensed = [0u8; 4];
-    get_bytes(bytes, at + state_length(bytes, at) - 4, &mut sensed);
+    get_row(bytes, at + state_length(bytes, at) - 4, &mut sensed);
     Flash {
         registers: registers,
         pulse_since: since,
@@ -89,11 +89,9 @@ pub fn load_pages(bytes: &[u8], count: usize, charges: &mut [u64])
     requires { (count ≤ pages) × (page_at count ≤ length bytes.now) × (length charges.old ≡ array_cells) }
     ensures { charges.new ≡ sets charges.old 0 (pages_cells count bytes.now pages_place) }
 {
-    let mut slot: usize = 0;
-    while slot < count {
+    for slot in 0..count {
         let from = slot * PAGE_CELLS;
         let to = from + PAGE_CELLS;
-        get_halves(bytes, page_at(slot) + 2, &mut charges[from..to]);
-        slot += 1;
+        get_row(bytes, page_at(slot) + 2, &mut charges[from..to]);
     }
 }

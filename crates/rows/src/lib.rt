@@ -6,70 +6,24 @@ pub mod numbers;
 ghost use Rattle.std.specs.Prelude.{◌≡◌, ◌++◌, ◌+◌, ◌*◌, ◌≤◌, length, take};
 ghost use Rattle.layout.specs.Layout.{row, row_bytes};
 
-use crate::numbers::{get16, get64, put16, put64};
+use crate::numbers::Number;
 
-pub fn get_bytes(s: &[u8], at: usize, out: &mut [u8])
-    requires { at + 1 * length out.old ≤ length s.now }
-    ensures { out.new ≡ row (length out.old) 1 at s.now }
+// The numbers of a row that begins at a place.
+pub fn get_row<N: Number>(from: &[u8], at: usize, out: &mut [N])
+    requires { at + N.WIDTH * length out.old ≤ length from.now }
+    ensures { N.numbers out.new ≡ row (length out.old) N.WIDTH at from.now }
 {
-    let mut i: usize = 0;
-    while i < out.len() {
-        out[i] = s[at + i];
-        i += 1;
+    for (k, number) in out.iter_mut().enumerate() {
+        *number = N::get(from, at + N::WIDTH * k);
     }
 }
 
-pub fn get_words(s: &[u8], at: usize, out: &mut [u16])
-    requires { at + 2 * length out.old ≤ length s.now }
-    ensures { out.new ≡ row (length out.old) 2 at s.now }
+// The bytes of a row stand from a place on; what is before it stays.
+pub fn put_row<N: Number>(to: &mut [u8], at: usize, row: &[N])
+    requires { at + N.WIDTH * length row.now ≤ length to.old }
+    ensures { take (at + N.WIDTH * length row.now) to.new ≡ take at to.old ++ row_bytes N.WIDTH (N.numbers row.now) }
 {
-    let mut i: usize = 0;
-    while i < out.len() {
-        out[i] = get16(s, at + 2 * i);
-        i += 1;
-    }
-}
-
-pub fn get_halves(s: &[u8], at: usize, out: &mut [u64])
-    requires { at + 8 * length out.old ≤ length s.now }
-    ensures { out.new ≡ row (length out.old) 8 at s.now }
-{
-    let mut i: usize = 0;
-    while i < out.len() {
-        out[i] = get64(s, at + 8 * i);
-        i += 1;
-    }
-}
-
-pub fn put_bytes(s: &mut [u8], at: usize, v: &[u8])
-    requires { at + 1 * length v.now ≤ length s.old }
-    ensures { take (at + 1 * length v.now) s.new ≡ take at s.old ++ row_bytes 1 v.now }
-{
-    let mut i: usize = 0;
-    while i < v.len() {
-        s[at + i] = v[i];
-        i += 1;
-    }
-}
-
-pub fn put_words(s: &mut [u8], at: usize, v: &[u16])
-    requires { at + 2 * length v.now ≤ length s.old }
-    ensures { take (at + 2 * length v.now) s.new ≡ take at s.old ++ row_bytes 2 v.now }
-{
-    let mut i: usize = 0;
-    while i < v.len() {
-        put16(s, at + 2 * i, v[i]);
-        i += 1;
-    }
-}
-
-pub fn put_halves(s: &mut [u8], at: usize, v: &[u64])
-    requires { at + 8 * length v.now ≤ length s.old }
-    ensures { take (at + 8 * length v.now) s.new ≡ take at s.old ++ row_bytes 8 v.now }
-{
-    let mut i: usize = 0;
-    while i < v.len() {
-        put64(s, at + 8 * i, v[i]);
-        i += 1;
+    for (k, number) in row.iter().enumerate() {
+        number.put(to, at + N::WIDTH * k);
     }
 }

@@ -1,64 +1,125 @@
-// Numbers in bytes, the low byte first. Each width is two of the half.
-ghost use Rattle.std.specs.Prelude.{◌≡◌, ◌++◌, ◌+◌, ◌<◌, ◌≤◌, length, take};
+// Numbers in bytes, the low byte first.
+ghost use Rattle.std.specs.Prelude.{◌≡◌, ℕ, List, ◌++◌, ◌+◌, ◌<◌, ◌≤◌, length, map, take};
 ghost use Rattle.layout.specs.Layout.{word, bytes};
+ghost use Rattle.std.proofs.lemmas.List.{map-id};
+ghost use Rattle.std.proofs.Common.{sym};
+
+pub trait Number: Copy {
+    // So many bytes.
+    ghost WIDTH: { ℕ };
+
+    // The number that a value is, and those of a list of values.
+    ghost number: { Self → ℕ };
+
+    ghost numbers: { List Self → List ℕ };
+
+    const WIDTH: usize;
+
+    // The number whose bytes stand from a place on.
+    fn get(from: &[u8], at: usize) -> Self
+        requires { at + WIDTH ≤ length from.now }
+        ensures { number result ≡ word WIDTH from.now at };
+
+    // Its bytes stand from a place on; what is before it stays.
+    fn put(self, to: &mut [u8], at: usize)
+        requires { at + WIDTH ≤ length to.old }
+        ensures { take (at + WIDTH) to.new ≡ take at to.old ++ bytes WIDTH (number self) };
+
+    ghost each: { (values : List Self) → numbers values ≡ map number values };
+}
+
+impl Number for u8 {
+    ghost WIDTH = { 1 };
+
+    ghost number = { λ value. value };
+
+    ghost numbers = { λ values. values };
+
+    ghost each = { λ values. sym (map-id values) };
+
+    const WIDTH: usize = 1;
+
+    fn get(from: &[u8], at: usize) -> u8 {
+        from[at]
+    }
+
+    fn put(self, to: &mut [u8], at: usize) {
+        to[at] = self;
+    }
+}
+
+// Each greater width is two of the half.
+impl Number for u16 {
+    ghost WIDTH = { 2 };
+
+    ghost number = { λ value. value };
+
+    ghost numbers = { λ values. values };
+
+    ghost each = { λ values. sym (map-id values) };
+
+    const WIDTH: usize = 2;
+
+    fn get(from: &[u8], at: usize) -> u16 {
+        u16::from(from[at]) + 256 * u16::from(from[at + 1])
+    }
+
+    fn put(self, to: &mut [u8], at: usize) {
+        to[at] = (self % 256) as u8;
+        to[at + 1] = (self / 256) as u8;
+    }
+}
 
 const LOW_16: u32 = 65536;
 
+impl Number for u32 {
+    ghost WIDTH = { 4 };
+
+    ghost number = { λ value. value };
+
+    ghost numbers = { λ values. values };
+
+    ghost each = { λ values. sym (map-id values) };
+
+    const WIDTH: usize = 4;
+
+    fn get(from: &[u8], at: usize) -> u32 {
+        let low = u16::get(from, at);
+        let high = u16::get(from, at + 2);
+        u32::from(low) + LOW_16 * u32::from(high)
+    }
+
+    fn put(self, to: &mut [u8], at: usize) {
+        let low = (self % LOW_16) as u16;
+        let high = (self / LOW_16) as u16;
+        low.put(to, at);
+        high.put(to, at + 2);
+    }
+}
+
 const LOW_32: u64 = 4294967296;
 
-fn wide(x: u8) -> u16
-    ensures { (result ≡ x) × (result < 256) }
-{
-    x as u16
-}
+impl Number for u64 {
+    ghost WIDTH = { 8 };
 
-// The number of two bytes from a place; then of four, and of eight.
-pub fn get16(s: &[u8], at: usize) -> u16
-    requires { at + 2 ≤ length s.now }
-    ensures { result ≡ word 2 s.now at }
-{
-    wide(s[at]) + 256 * wide(s[at + 1])
-}
+    ghost number = { λ value. value };
 
-pub fn get32(s: &[u8], at: usize) -> u32
-    requires { at + 4 ≤ length s.now }
-    ensures { result ≡ word 4 s.now at }
-{
-    let low = get16(s, at);
-    let high = get16(s, at + 2);
-    (low as u32) + LOW_16 * (high as u32)
-}
+    ghost numbers = { λ values. values };
 
-pub fn get64(s: &[u8], at: usize) -> u64
-    requires { at + 8 ≤ length s.now }
-    ensures { result ≡ word 8 s.now at }
-{
-    let low = get32(s, at);
-    let high = get32(s, at + 4);
-    (low as u64) + LOW_32 * (high as u64)
-}
+    ghost each = { λ values. sym (map-id values) };
 
-// The bytes of a number stand from a place on; what is before it stays.
-pub fn put16(s: &mut [u8], at: usize, v: u16)
-    requires { at + 2 ≤ length s.old }
-    ensures { take (at + 2) s.new ≡ take at s.old ++ bytes 2 v }
-{
-    s[at] = (v % 256) as u8;
-    s[at + 1] = (v / 256) as u8;
-}
+    const WIDTH: usize = 8;
 
-pub fn put32(s: &mut [u8], at: usize, v: u32)
-    requires { at + 4 ≤ length s.old }
-    ensures { take (at + 4) s.new ≡ take at s.old ++ bytes 4 v }
-{
-    put16(s, at, (v % LOW_16) as u16);
-    put16(s, at + 2, (v / LOW_16) as u16);
-}
+    fn get(from: &[u8], at: usize) -> u64 {
+        let low = u32::get(from, at);
+        let high = u32::get(from, at + 4);
+        u64::from(low) + LOW_32 * u64::from(high)
+    }
 
-pub fn put64(s: &mut [u8], at: usize, v: u64)
-    requires { at + 8 ≤ length s.old }
-    ensures { take (at + 8) s.new ≡ take at s.old ++ bytes 8 v }
-{
-    put32(s, at, (v % LOW_32) as u32);
-    put32(s, at + 4, (v / LOW_32) as u32);
+    fn put(self, to: &mut [u8], at: usize) {
+        let low = (self % LOW_32) as u32;
+        let high = (self / LOW_32) as u32;
+        low.put(to, at);
+        high.put(to, at + 4);
+    }
 }

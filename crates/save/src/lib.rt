@@ -6,30 +6,23 @@ ghost use Rattle.cell.specs.Cell.{at, pages, array_bytes, array_cells};
 ghost use Rattle.settle.specs.Pages.{opened, slots_sound};
 ghost use Rattle.layout.specs.Layout.{option_byte};
 ghost use Rattle.lent.specs.Memory.{chip_in};
+ghost use Rattle.refusal.specs.Refusal.{told, Answers};
 ghost use Rattle.borsh.specs.Borsh.{write_all};
 ghost use Rattle.snapshot.specs.Snapshot.{charge_page, slot_pages, place_of, state, controls, latched, supplies, instants, pending, state_fields, snapshot_of, snapshot_length};
 ghost use Rattle.snapshot.specs.Asked.{write_refusal, written_out};
 ghost use Rattle.snapshot.specs.Places.{pages_place, page_at};
 
 use cell::{PAGE, PAGE_CELLS, PAGES};
-use checks::accepts;
-use coding::read;
 use coding::state::flag_byte;
 use control::PendingSense;
 use control::supplies::{mode_number, supply_number};
 use flash::Flash;
-use lent::checking::sizes_misfit;
-use rows::numbers::{put16, put32};
-use rows::{put_bytes, put_halves};
+use lent::opening;
+use refusal::Refusal;
+use rows::numbers::Number;
+use rows::put_row;
 use settle::pages::opened;
 use snapshot::{COUNT, PAGE_LEN, page_at};
-
-// A refusal's number, and the length where it is 0.
-#[derive(Clone, Copy)]
-pub struct Written {
-    pub number: u32,
-    pub length: usize,
-}
 
 // The address of the page that has each slot. From the last page down, so that the first page with a slot stays.
 fn owners(indices: &[u16]) -> [u16; PAGES]
@@ -37,10 +30,8 @@ fn owners(indices: &[u16]) -> [u16; PAGES]
     ensures { (s : ℕ) → s < opened indices.now → at result s ≡ place_of (suc s) indices.now * 128 }
 {
     let mut found = [0u16; PAGES];
-    let mut i = PAGES;
-    while 0 < i {
-        i -= 1;
-        let entry = indices[i] as usize;
+    for i in (0..PAGES).rev() {
+        let entry = usize::from(indices[i]);
         if entry != 0 {
             found[entry - 1] = (i * PAGE) as u16;
         }
@@ -54,13 +45,11 @@ fn put_pages(out: &mut [u8], indices: &[u16], charges: &[u64], count: usize)
     ensures { take (page_at count) out.new ≡ take pages_place out.old ++ write_all (charge_page []).write (slot_pages count 0 indices.now charges.now) }
 {
     let owners = owners(indices);
-    let mut slot: usize = 0;
-    while slot < count {
+    for slot in 0..count {
         let from = slot * PAGE_CELLS;
         let to = from + PAGE_CELLS;
-        put16(out, page_at(slot), owners[slot]);
-        put_halves(out, page_at(slot) + 2, &charges[from..to]);
-        slot += 1;
+        owners[slot].put(out, page_at(slot));
+        put_row(out, page_at(slot) + 2, &charges[from..to]);
     }
 }
 
@@ -77,7 +66,7 @@ fn put_controls(out: &mut [u8], at: usize, flash: Flash)
         flag_byte(r.enabled),
         flag_byte(r.power_down_disabled),
     ];
-    put_bytes(out, at, &run);
+    put_row(out, at, &run);
 }
 
 fn put_latched(out: &mut [u8], at: usize, flash: Flash)
@@ -86,8 +75,8 @@ fn put_latched(out: &mut [u8], at: usize, flash: Flash)
 {
     let r = flash.registers;
     let latch = r.latch;
-    put_bytes(out, at, &latch);
-    put16(out, at + PAGE, r.page);
+    put_row(out, at, &latch);
+    r.page.put(out, at + PAGE);
 }
 
 fn put_supplies(out: &mut [u8], at: usize, flash: Flash)
@@ -103,7 +92,7 @@ fn put_supplies(out: &mut [u8], at: usize, flash: Flash)
         mode_number(mode),
         flag_byte(r.module),
     ];
-    put_bytes(out, at, &run);
+    put_row(out, at, &run);
 }
 
 // The low half of an instant stands first.
@@ -129,7 +118,7 @@ fn put_instants(out: &mut [u8], at: usize, flash: Flash)
         r.verify_ready.1,
         r.verify_ready.0,
     ];
-    put_halves(out, at, &run);
+    put_row(out, at, &run);
 }
 
 // 0, or 1 with address and instant. The answer is the place after it.
@@ -144,9 +133,9 @@ fn put_pending(out: &mut [u8], at: usize, sense: Option<PendingSense>) -> usize
         }
         Some(due) => {
             out[at] = 1;
-            put16(out, at + 1, due.address);
+            due.address.put(out, at + 1);
             let halves = [due.at.1, due.at.0];
-            put_halves(out, at + 3, &halves);
+            put_row(out, at + 3, &halves);
             at + 19
         }
     }
@@ -164,7 +153,7 @@ fn put_state(out: &mut [u8], at: usize, flash: Flash)
     let pending = r.verify_pending;
     let end = put_pending(out, at + 251, pending);
     let sensed = flash.sensed;
-    put_bytes(out, end, &sensed);
+    put_row(out, end, &sensed);
 }
 
 // How long a snapshot is.
@@ -185,43 +174,32 @@ fn fill(out: &mut [u8], flash: Flash, array: &[u8], charges: &[u64], count: usiz
     ensures { out.new ≡ snapshot_of (record { flash = flash; array = array.now; charges = charges.now }) }
 {
     let indices = flash.indices;
-    put_bytes(out, 0, array);
-    put32(out, COUNT, count as u32);
+    put_row(out, 0, array);
+    let number = count as u32;
+    number.put(out, COUNT);
     put_pages(out, &indices, charges, count);
     put_state(out, page_at(count), flash);
 }
 
-// The snapshot stands at the beginning of the output; what is past it stays.
-pub fn write_snapshot(record: &[u8], array: &[u8], charges: &[u64], out: &mut [u8]) -> Written
-    ensures { (result.number ≡ write_refusal (length out.old) (record { bytes = «record».now; array = array.now; charges = charges.now })) × (out.new ≡ written_out result.number (record { bytes = «record».now; array = array.now; charges = charges.now }) out.old) × (result.number ≡ 0 → result.length ≡ length (snapshot_of (chip_in (record { bytes = «record».now; array = array.now; charges = charges.now })))) }
+// The snapshot stands at the beginning of the output, and the answer is its length; what is past it stays.
+pub fn write_snapshot(
+    record: &[u8],
+    array: &[u8],
+    charges: &[u64],
+    out: &mut [u8],
+) -> Result<usize, Refusal>
+    ensures answer { Answers (write_refusal (length out.old) (record { bytes = «record».now; array = array.now; charges = charges.now })) (length (snapshot_of (chip_in (record { bytes = «record».now; array = array.now; charges = charges.now })))) result }
+    ensures out { out.new ≡ written_out (told result) (record { bytes = «record».now; array = array.now; charges = charges.now }) out.old }
 {
-    if sizes_misfit(record.len(), array.len(), charges.len()) {
-        return Written {
-            number: 2,
-            length: 0,
-        };
-    }
-    if !accepts(record) {
-        return Written {
-            number: 3,
-            length: 0,
-        };
-    }
-    let flash = read(record);
+    let flash = opening::opened(record, array, charges)?;
     let indices = flash.indices;
     let r = flash.registers;
     let pending = r.verify_pending;
     let count = opened(&indices);
     let length = snapshot_length(count, pending);
     if out.len() < length {
-        return Written {
-            number: 8,
-            length: 0,
-        };
+        return Err(Refusal::Output);
     }
     fill(&mut out[0..length], flash, array, charges, count);
-    Written {
-        number: 0,
-        length: length,
-    }
+    Ok(length)
 }

@@ -2,8 +2,9 @@
 -- one of many by the highest bit of all those numbers together, since among charges that are all there the first refusal and any refusal
 -- are the same 10. A row that is cut has the number of those that are there, or else 9. A page goes by quarters.
 -- Assumes nothing.
-use Rattle.std.proofs.Common.{◌≡◌, ℕ, zero, suc, ◌+◌, ◌-◌, ◌*◌, ◌%◌, ◌^◌, ◌<◌, ◌≤◌, Bool, true, false, cond, ltb, leb, List, length, sym, refl, ◌∙◌, add-zero, add-suc, mul-zero, arith, ltb-false, ltb-true, le-ltb, lt-ltb, leb-false, leb-true}
+use Rattle.std.proofs.Common.{◌≡◌, ℕ, zero, suc, ◌+◌, ◌-◌, ◌*◌, ◌%◌, ◌^◌, ◌<◌, ◌≤◌, ◌/◌, min, Bool, true, false, cond, ltb, leb, List, length, sym, refl, ◌∙◌, add-zero, add-suc, mul-zero, arith, ltb-false, ltb-true, le-ltb, lt-ltb, leb-false, leb-true}
 use lib.Bits.{bit_and, bit_or, and_le_l, and_le_r, or_lt, or_add_and}
+use native.Mathlib.Decide.{ℕ_discrete}
 use Rattle.cell.specs.Cell.{FULL, page_cells}
 use Rattle.layout.specs.Layout.{word}
 use Rattle.snapshot.specs.Asked.{first}
@@ -80,6 +81,21 @@ cells_cut n count xs place t h k e =
     by true = refl
     by false = refl
 
+-- so many of them as are there
+module _ (n count : ℕ) (xs : List ℕ) (place : ℕ) (h : place ≤ length xs) (e : n ≡ min ((length xs - place) / 8) count) where
+  pub one-over : cells_number n xs place ≡ 10 → 10 ≡ cells_number count xs place
+  one-over d = by (ℕ_discrete n count)
+    where
+      by : Dec (n ≡ count) → 10 ≡ cells_number count xs place
+      by (yes f) = sym (rw f at d)
+      by (no f) = sym (cells_cut n count xs place false (omega arith) (omega arith) d)
+
+  pub end-early : cells_number n xs place ≡ 0 → (length xs - place) / 8 < count → 9 ≡ cells_number count xs place
+  end-early d l = sym (cells_cut n count xs place true (omega arith) (omega arith) d)
+
+  pub all-there : cells_number n xs place ≡ 0 → count ≤ (length xs - place) / 8 → 0 ≡ cells_number count xs place
+  all-there d l = let f : n ≡ count = omega arith in sym (rw f at d)
+
 -- ---- so many charges that are there, after i of them: all has the highest bit if one of the i is over FULL
 
 pub record Looked (count : ℕ) (xs : List ℕ) (start all i : ℕ) : Type 0 where
@@ -98,34 +114,26 @@ module _ {count : ℕ} {xs : List ℕ} {start all i : ℕ} (l : Looked count xs 
       let c : cell_number xs (start + 8 * i) ≡ ten b = cell-ten xs (start + 8 * i) b (omega arith) e in
       record { most = omega arith; rest = l.rest ∙ rw (n, p, cells-next (count - (i + 1)), c, ← first-assoc, first-ten) }
 
--- ---- a page by quarters, after i of its charges
+-- ---- a page by quarters, after so many of them
 
-pub record Cells (xs : List ℕ) (start number place i : ℕ) : Type 0 where
-  pub none : number ≡ 0
-  pub most : i ≤ page_cells
-  pub quarters : i % 256 ≡ 0
-  pub there : place ≡ start + 8 * i
+pub record Cells (xs : List ℕ) (start place quarter : ℕ) : Type 0 where
+  pub there : place ≡ start + 2048 * quarter
   pub fits : place ≤ length xs
-  pub rest : cells_number page_cells xs start ≡ cells_number (page_cells - i) xs place
+  pub rest : cells_number page_cells xs start ≡ cells_number (page_cells - 256 * quarter) xs place
 
-module _ {xs : List ℕ} {start number place i : ℕ} (c : Cells xs start number place i) where
-  pub cells-through : page_cells ≤ i → cells_number page_cells xs start ≡ 0
-  cells-through h = let e : page_cells - i ≡ 0 = omega arith in c.rest ∙ rw e (no_cells xs place)
+module _ {xs : List ℕ} {start place i : ℕ} (c : Cells xs start place i) where
+  pub cells-through : 4 ≤ i → cells_number page_cells xs start ≡ 0
+  cells-through h = let e : page_cells - 256 * i ≡ 0 = omega arith in c.rest ∙ rw e (no_cells xs place)
 
-  module _ (h : i < page_cells) where
-    quarter : cells_number page_cells xs start ≡ first (cells_number 256 xs place) (cells_number (page_cells - (i + 256)) xs (place + 2048))
-    quarter = let e : page_cells - i ≡ page_cells - (i + 256) + 256 = omega arith in c.rest ∙ rw e (cells-split (page_cells - (i + 256)) 256 xs place)
+  module _ (h : i < 4) where
+    quarter : cells_number page_cells xs start ≡ first (cells_number 256 xs place) (cells_number (page_cells - 256 * (i + 1)) xs (place + 2048))
+    quarter =
+        let e : page_cells - 256 * i ≡ page_cells - 256 * (i + 1) + 256 = omega arith in
+        c.rest ∙ rw e (cells-split (page_cells - 256 * (i + 1)) 256 xs place)
 
-    pub quarter-good : {n : ℕ} → n ≡ cells_number 256 xs place → n ≡ 0 → Cells xs start n (place + 2048) (i + 256)
-    quarter-good e z =
-        record {
-          none = z;
-          most = omega arith;
-          quarters = omega arith;
-          there = omega arith;
-          fits = cells-there 256 xs place c.fits (sym e ∙ z);
-          rest = quarter ∙ first_passes _ e z;
-        }
+    pub quarter-good : cells_number 256 xs place ≡ 0 → Cells xs start (place + 2048) (i + 1)
+    quarter-good z =
+        record { there = omega arith; fits = cells-there 256 xs place c.fits z; rest = quarter ∙ first_passes _ (sym z) refl }
 
     pub quarter-bad : {n : ℕ} → n ≡ cells_number 256 xs place → (n ≡ 0 → ⊥) → n ≡ cells_number page_cells xs start
     quarter-bad e z = rw quarter (first_stops _ e z)

@@ -2,11 +2,15 @@
 -- answers; at the first refused field it is that field's number. So for limited bytes and the pages.
 -- Assumes nothing.
 use Rattle.std.proofs.Common.{◌≡◌, ℕ, zero, suc, ◌+◌, ◌-◌, ◌*◌, ◌/◌, ◌%◌, ◌<◌, ◌≤◌, Bool, true, false, cond, ◌&&◌, eqb, ltb, leb, List, ◌∷◌, length, drop, sym, refl, ◌∙◌, add-one, arith, drop_of_length-le, drop-cons, ltb-false, ltb-true, le-ltb, le-leb, leb-false}
+use Rattle.std.specs.Prelude.{Result, Ok, Err, OnOk}
 use borrow.Author.Tests.{lt-leb}
 use Rattle.time.proofs.Bools.{both}
 use Rattle.cell.specs.Cell.{at, page_bytes, page_cells, pages, array_bytes}
 use Rattle.flash.specs.Chip.{no_pages}
 use Rattle.layout.specs.Layout.{word, placed}
+use Rattle.refusal.specs.declared.Refusal.{Refusal}
+use Rattle.refusal.specs.Refusal.{number}
+use Rattle.refusal.proofs.Outcomes.{number-some}
 use Rattle.snapshot.specs.Asked.{first}
 use Rattle.snapshot.specs.Places.{pages_place, page_length, page_at, count_in, cells_number, address_number, with_page, pages_number, pages_index, bytes_number, state_length, state_number, count_number, scan_number}
 
@@ -22,6 +26,15 @@ first_passes n e z = rw (sym e ∙ z)
 pub first_stops : {m r : ℕ} (n : ℕ) → r ≡ m → (r ≡ 0 → ⊥) → r ≡ first m n
 first_stops {m = zero} n e z = absurd (z e)
 first_stops {m = suc m} n e z = e
+
+-- what is so after both outcomes
+pub on_ok : {A E : Type 0} {P : Type 0} (outcome : Result A E) → P → OnOk outcome P
+on_ok (Ok value) p = p
+on_ok (Err e) p = tt
+
+-- the number of a refusal isn't 0
+pub refused : (r : Refusal) → number r ≡ 0 → ⊥
+refused r e = omega (arith, number-some r)
 
 -- ---- what is not refused
 
@@ -66,9 +79,7 @@ byte-there most limits xs place e = leb-false (length xs) place (not-nine (leb (
 
 -- ---- the pages, after those of so many slots
 
-pub record Pages (count : ℕ) (index₀ xs index : List ℕ) (number place slot : ℕ) : Type 0 where
-  pub none : number ≡ 0
-  pub most : slot ≤ count
+pub record Pages (count : ℕ) (index₀ xs index : List ℕ) (place slot : ℕ) : Type 0 where
   pub there : place ≡ pages_place + slot * page_length
   pub long : length index ≡ length index₀
   pub rest : pages_number count 0 index₀ xs pages_place ≡ pages_number (count - slot) slot index xs place
@@ -89,13 +100,13 @@ no-pages : (s : ℕ) (index xs : List ℕ) (place : ℕ) → (pages_number 0 s i
 unfolding pages_number pages_index
 no-pages s index xs place = (refl, refl)
 
-module _ {count : ℕ} {index₀ xs index : List ℕ} {number place slot : ℕ} (p : Pages count index₀ xs index number place slot) where
+module _ {count : ℕ} {index₀ xs index : List ℕ} {place slot : ℕ} (p : Pages count index₀ xs index place slot) where
   pub pages-through : count ≤ slot
-      → (number ≡ pages_number count 0 index₀ xs pages_place) × (index ≡ pages_index count 0 index₀ xs pages_place)
+      → (0 ≡ pages_number count 0 index₀ xs pages_place) × (index ≡ pages_index count 0 index₀ xs pages_place)
   pages-through h =
       let e : count - slot ≡ 0 = omega arith in
       let n = no-pages slot index xs place in
-      (p.none ∙ sym (p.rest ∙ rw e n.0), sym (p.index_rest ∙ rw e n.1))
+      (sym (p.rest ∙ rw e n.0), sym (p.index_rest ∙ rw e n.1))
 
   module _ (h : slot < count) where
     left : count - slot ≡ suc (count - suc slot)
@@ -113,12 +124,10 @@ module _ {count : ℕ} {index₀ xs index : List ℕ} {number place slot : ℕ} 
       pub cells-bad : {n : ℕ} → n ≡ cells_number page_cells xs (place + 2) → (n ≡ 0 → ⊥) → n ≡ pages_number count 0 index₀ xs pages_place
       cells-bad e z = rw (pages-step, fine) (first_stops _ e z)
 
-      pub page-good : {after : List ℕ} {n end : ℕ} → cells_number page_cells xs (place + 2) ≡ 0 → n ≡ 0 → after ≡ with_page index slot xs place
-          → length after ≡ length index → end ≡ place + page_length → Pages count index₀ xs after n end (slot + 1)
-      page-good e z w l t =
+      pub page-good : {after : List ℕ} {end : ℕ} → cells_number page_cells xs (place + 2) ≡ 0 → after ≡ with_page index slot xs place
+          → length after ≡ length index → end ≡ place + page_length → Pages count index₀ xs after end (slot + 1)
+      page-good e w l t =
           record {
-            none = z;
-            most = omega arith;
             there = omega arith;
             long = l ∙ p.long;
             rest = pages-step ∙ rw (fine, e, w, t, add-one slot);

@@ -1,30 +1,27 @@
 // The first field of a snapshot that is refused, in reading order. Nothing is kept but the page index.
 #![tactic(auto)]
 
-ghost use Rattle.std.specs.Prelude.{◌≡◌, ◌+◌, ◌*◌, ◌/◌, ◌^◌, ◌<◌, ◌≤◌, [], length, if◌then◌else◌, nat_le, nat_lt};
-ghost use Rattle.cell.specs.Cell.{FULL, pages};
+ghost use Rattle.std.specs.Prelude.{◌≡◌, ◌+◌, ◌*◌, ◌/◌, ◌^◌, ◌<◌, ◌≤◌, [], length, if◌then◌else◌, nat_le, nat_lt, OnOk};
+ghost use Rattle.cell.specs.Cell.{FULL, page_bytes, pages};
 ghost use Rattle.flash.specs.Chip.{no_pages};
 ghost use Rattle.layout.specs.Layout.{word};
-ghost use Rattle.snapshot.specs.Places.{pages_place, count_in, cells_number, address_number, with_page, pages_number, pages_index, bytes_number, state_length, state_number, scan_number};
+ghost use Rattle.refusal.specs.Refusal.{told, Answers};
+ghost use Rattle.snapshot.specs.Places.{pages_place, count_in, cells_number, address_number, with_page, pages_number, pages_index, bytes_number, end_number, state_length, state_number, scan_number};
 
-use cell::{FULL, PAGE, PAGE_CELLS, PAGES};
+use cell::{FULL, PAGE, PAGES};
 use checks::{PAGE_BYTES, placed};
-use rows::numbers::{get16, get32, get64};
+use refusal::Refusal;
+use rows::numbers::Number;
 use snapshot::{COUNT, FIRST_PAGE, page_at};
 use std::num::wrapping_sub_u64;
 
 // The highest bit of a charge.
 const TOP: u64 = 9223372036854775808;
 
-// A quarter of a page's cells.
+// A page is gone over by quarters: the cells of one, and how many there are.
 const QUARTER: usize = 256;
 
-// An address as a number of bytes.
-fn wide(address: u16) -> usize
-    ensures { result ≡ address }
-{
-    address as usize
-}
+const QUARTERS: usize = 4;
 
 // The highest bit tells a charge over FULL: only then both it and what FULL less it wraps to have that bit.
 fn over(charge: u64) -> u64
@@ -39,42 +36,43 @@ fn none_over(bytes: &[u8], at: usize, count: usize) -> bool
     ensures { cells_number count bytes.now at ≡ (if result then 0 else 10) }
 {
     let mut all: u64 = 0;
-    let mut i: usize = 0;
-    while i < count {
-        all = all | over(get64(bytes, at + 8 * i));
-        i += 1;
+    for i in 0..count {
+        all = all | over(u64::get(bytes, at + 8 * i));
     }
     all < TOP
 }
 
-// So many charges in a row: 10 if one that is there is over FULL, else 9 if one is not there, as those that are there come first.
-fn cells_number(bytes: &[u8], at: usize, count: usize) -> u32
+// So many charges in a row: if one that is there is over FULL it is refused, else if one is not there, as those that are there come first.
+fn check_cells(bytes: &[u8], at: usize, count: usize) -> Result<(), Refusal>
     requires { at ≤ length bytes.now }
-    ensures { result ≡ cells_number count bytes.now at }
+    ensures { told result ≡ cells_number count bytes.now at }
 {
     let there = (bytes.len() - at) / 8;
-    if there < count {
-        return if none_over(bytes, at, there) { 9 } else { 10 };
+    if !none_over(bytes, at, there.min(count)) {
+        return Err(Refusal::Field);
     }
-    if none_over(bytes, at, count) { 0 } else { 10 }
+    if there < count {
+        return Err(Refusal::EndsEarly);
+    }
+    Ok(())
 }
 
-// The address of a charge page: 9, or 10 if it is misaligned, past the end or in the index already.
-fn address_number(bytes: &[u8], at: usize, indices: &[u16]) -> u32
+// The address of a charge page: a field that is refused if it is misaligned, past the end or in the index already.
+fn check_address(bytes: &[u8], at: usize, indices: &[u16]) -> Result<(), Refusal>
     requires { (at < 2 ^ 32) × (length indices.now ≡ pages) }
-    ensures { result ≡ address_number indices.now bytes.now at }
+    ensures { told result ≡ address_number indices.now bytes.now at }
 {
     if bytes.len() < at + 2 {
-        return 9;
+        return Err(Refusal::EndsEarly);
     }
-    let address = get16(bytes, at);
+    let address = u16::get(bytes, at);
     if !placed(address, PAGE_BYTES) {
-        return 10;
+        return Err(Refusal::Field);
     }
-    if indices[wide(address) / PAGE] != 0 {
-        return 10;
+    if indices[usize::from(address) / PAGE] != 0 {
+        return Err(Refusal::Field);
     }
-    0
+    Ok(())
 }
 
 // A page is entered in the index with its slot.
@@ -82,55 +80,59 @@ fn enter_page(indices: &mut [u16], slot: usize, bytes: &[u8], at: usize)
     requires { (length indices.old ≡ pages) × (slot < pages) × (at + 2 ≤ length bytes.now) × (word 2 bytes.now at / 128 < pages) }
     ensures { indices.new ≡ with_page indices.old slot bytes.now at }
 {
-    let page = wide(get16(bytes, at)) / PAGE;
+    let page = usize::from(u16::get(bytes, at)) / PAGE;
     indices[page] = (slot + 1) as u16;
 }
 
 // The charge pages. Reading stops at the first quarter of a page that has a bad cell.
-fn scan_pages(bytes: &[u8], count: usize, indices: &mut [u16]) -> u32
+fn check_pages(bytes: &[u8], count: usize, indices: &mut [u16]) -> Result<(), Refusal>
     requires { (count ≤ pages) × (length indices.old ≡ pages) }
-    ensures { (result ≡ pages_number count 0 indices.old bytes.now pages_place) × (result ≡ 0 → indices.new ≡ pages_index count 0 indices.old bytes.now pages_place) }
+    ensures { (told result ≡ pages_number count 0 indices.old bytes.now pages_place) × OnOk result (indices.new ≡ pages_index count 0 indices.old bytes.now pages_place) }
 {
-    let mut number: u32 = 0;
+    let mut outcome = Ok(());
     let mut at = FIRST_PAGE;
-    let mut slot: usize = 0;
-    'pages: while slot < count {
-        number = address_number(bytes, at, indices);
-        if number != 0 {
+    'pages: for slot in 0..count {
+        if let Err(refusal) = check_address(bytes, at, indices) {
+            outcome = Err(refusal);
             break 'pages;
         }
         enter_page(indices, slot, bytes, at);
         at += 2;
-        let mut i: usize = 0;
-        while i < PAGE_CELLS {
-            number = cells_number(bytes, at, QUARTER);
-            if number != 0 {
+        for quarter in 0..QUARTERS {
+            if let Err(refusal) = check_cells(bytes, at, QUARTER) {
+                outcome = Err(refusal);
                 break 'pages;
             }
             at += 8 * QUARTER;
-            i += QUARTER;
         }
-        slot += 1;
     }
-    number
+    outcome
 }
 
-// Single bytes, each with the most that it can be: 9, or 10 if one is more.
-fn bytes_number(bytes: &[u8], at: usize, limits: &[u8]) -> u32
+// Single bytes, each with the most that it can be.
+fn check_bytes(bytes: &[u8], at: usize, limits: &[u8]) -> Result<(), Refusal>
     requires { (at < 2 ^ 32) × (length limits.now < 2 ^ 32) }
-    ensures { result ≡ bytes_number limits.now bytes.now at }
+    ensures { told result ≡ bytes_number limits.now bytes.now at }
 {
-    let mut i: usize = 0;
-    while i < limits.len() {
+    for (i, most) in limits.iter().enumerate() {
         if bytes.len() <= at + i {
-            return 9;
+            return Err(Refusal::EndsEarly);
         }
-        if limits[i] < bytes[at + i] {
-            return 10;
+        if *most < bytes[at + i] {
+            return Err(Refusal::Field);
         }
-        i += 1;
     }
-    0
+    Ok(())
+}
+
+// The bytes before a place.
+fn check_end(bytes: &[u8], end: usize) -> Result<(), Refusal>
+    ensures { told result ≡ end_number bytes.now end }
+{
+    if bytes.len() < end {
+        return Err(Refusal::EndsEarly);
+    }
+    Ok(())
 }
 
 // The bytes of the state that stands at a place: 18 more with a pending sense.
@@ -142,35 +144,19 @@ pub fn state_length(bytes: &[u8], at: usize) -> usize
 }
 
 // The state.
-fn state_number(bytes: &[u8], at: usize) -> u32
+fn check_state(bytes: &[u8], at: usize) -> Result<(), Refusal>
     requires { at < 2 ^ 31 }
-    ensures { result ≡ state_number bytes.now at }
+    ensures { told result ≡ state_number bytes.now at }
 {
     let controls = [255u8, 1, 255, 1, 1];
-    let number = bytes_number(bytes, at, &controls);
-    if number != 0 {
-        return number;
-    }
-    if bytes.len() < at + 135 {
-        return 9;
-    }
     let supplies = [2u8, 1, 5, 1];
-    let number = bytes_number(bytes, at + 135, &supplies);
-    if number != 0 {
-        return number;
-    }
-    if bytes.len() < at + 251 {
-        return 9;
-    }
     let option = [1u8];
-    let number = bytes_number(bytes, at + 251, &option);
-    if number != 0 {
-        return number;
-    }
-    if bytes.len() < at + state_length(bytes, at) {
-        return 9;
-    }
-    0
+    check_bytes(bytes, at, &controls)?;
+    check_end(bytes, at + 135)?;
+    check_bytes(bytes, at + 135, &supplies)?;
+    check_end(bytes, at + 251)?;
+    check_bytes(bytes, at + 251, &option)?;
+    check_end(bytes, at + state_length(bytes, at))
 }
 
 // The count of charge pages.
@@ -178,25 +164,23 @@ pub fn count_in(bytes: &[u8]) -> usize
     requires { pages_place ≤ length bytes.now }
     ensures { result ≡ count_in bytes.now }
 {
-    get32(bytes, COUNT) as usize
+    u32::get(bytes, COUNT) as usize
 }
 
-// The whole of it: 9 or 10 by the first field that is refused, else 0 and the page index.
+// The whole of it: the page index, or the first field that is refused.
 #[tactic(auto, using(crate::proofs::Turns::many))]
-pub fn scan(bytes: &[u8], indices: &mut [u16]) -> u32
-    requires { indices.old ≡ no_pages pages }
-    ensures { (result ≡ scan_number bytes.now) × (result ≡ 0 → indices.new ≡ pages_index (count_in bytes.now) 0 (no_pages pages) bytes.now pages_place) }
+pub fn scan(bytes: &[u8]) -> Result<[u16; PAGES], Refusal>
+    ensures { Answers (scan_number bytes.now) (pages_index (count_in bytes.now) 0 (no_pages pages) bytes.now pages_place) result }
 {
     if bytes.len() < FIRST_PAGE {
-        return 9;
+        return Err(Refusal::EndsEarly);
     }
     let count = count_in(bytes);
     if PAGES < count {
-        return 10;
+        return Err(Refusal::Field);
     }
-    let number = scan_pages(bytes, count, indices);
-    if number != 0 {
-        return number;
-    }
-    state_number(bytes, page_at(count))
+    let mut indices = [0u16; PAGES];
+    check_pages(bytes, count, &mut indices)?;
+    check_state(bytes, page_at(count))?;
+    Ok(indices)
 }

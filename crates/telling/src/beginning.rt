@@ -71,11 +71,13 @@ fn begin_from_snapshot<R: Files, S: Print>(
         Loaded::Nothing => false,
         Loaded::Bytes(n) => {
             let last = Time(u64::MAX - 1, u64::MAX);
-            let number = read_snapshot(first(buffer, n), record, array, charges, last);
-            if number != 0 {
-                say_no_snapshot(says, path, number);
+            match read_snapshot(first(buffer, n), record, array, charges, last) {
+                Ok(()) => true,
+                Err(refusal) => {
+                    say_no_snapshot(says, path, u32::from(refusal));
+                    false
+                }
             }
-            number == 0
         }
     }
 }

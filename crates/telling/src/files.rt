@@ -34,12 +34,11 @@ pub fn snapshot_drafted<R: Files, S: Print>(
     if path.len() == 0 {
         return true;
     }
-    let written = write_snapshot(record, array, charges, buffer);
-    if written.number != 0 {
+    let Ok(length) = write_snapshot(record, array, charges, buffer) else {
         say_not_written(says, path);
         return false;
-    }
-    drafted(rt, path, says, b"", first(buffer, written.length))
+    };
+    drafted(rt, path, says, b"", first(buffer, length))
 }
 
 // Whether the picture is drafted, if one is asked for.

@@ -2,17 +2,17 @@
 #![tactic(auto)]
 
 ghost use Rattle.std.specs.Prelude.{◌≡◌};
-ghost use Rattle.lent.specs.Looked.{Shown};
-ghost use Rattle.snapshot.specs.Asked.{pending_placed, valid, valid_refusal, valid_answer};
+ghost use Rattle.layout.specs.Layout.{decoded};
+ghost use Rattle.refusal.specs.Refusal.{Answers};
+ghost use Rattle.snapshot.specs.Asked.{pending_placed, valid, valid_refusal};
 
 use checks::{PAGE_BYTES, legible, placed};
 use coding::read;
-use coding::state::flag_byte;
 use control::PendingSense;
 use flash::Flash;
 use layout::RECORD_LEN;
 use lent::checking::last_second;
-use see::Seen;
+use refusal::Refusal;
 use time::Time;
 
 // A pending sense is of four aligned bytes inside the array.
@@ -40,30 +40,17 @@ pub fn valid(time: Time, flash: Flash) -> bool
 }
 
 // Whether a record's state is valid at a time: what this tests is not refused by 3, nor a time before the last settling by 6.
-pub fn see_valid(record: &[u8], time: Time) -> Seen
-    ensures { Shown (valid_refusal «record».now time) (valid_answer «record».now time) result.number result.value }
+pub fn see_valid(record: &[u8], time: Time) -> Result<bool, Refusal>
+    ensures { Answers (valid_refusal «record».now time) (valid time (decoded «record».now)) result }
 {
     if record.len() != RECORD_LEN {
-        return Seen {
-            number: 2,
-            value: 0,
-        };
+        return Err(Refusal::Memory);
     }
     if !legible(record) {
-        return Seen {
-            number: 3,
-            value: 0,
-        };
+        return Err(Refusal::Record);
     }
     if last_second(time) {
-        return Seen {
-            number: 5,
-            value: 0,
-        };
+        return Err(Refusal::LastSecond);
     }
-    let flash = read(record);
-    Seen {
-        number: 0,
-        value: flag_byte(valid(time, flash)),
-    }
+    Ok(valid(time, read(record)))
 }

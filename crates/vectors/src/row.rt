@@ -1,6 +1,6 @@
 // A row of the list: 64 bytes, the first a letter that says what it is. The fields stand where the recorder puts them, numbers with the
 // low byte first.
-use rows::numbers::{get16, get32, get64};
+use rows::numbers::Number;
 
 pub const BYTES: usize = 64;
 
@@ -52,7 +52,7 @@ pub fn value(row: &Row) -> u8 {
 }
 
 pub fn address(row: &Row) -> u16 {
-    get16(row, 2)
+    u16::get(row, 2)
 }
 
 // The environment's flags.
@@ -66,28 +66,28 @@ pub fn oscillator(row: &Row) -> bool {
 
 // How many bytes: the firmware's, or those of the snapshot that are read; or the place of a patch; or how many rows there are.
 pub fn size(row: &Row) -> u32 {
-    get32(row, 4)
+    u32::get(row, 4)
 }
 
 pub fn seconds(row: &Row) -> u64 {
-    get64(row, 8)
+    u64::get(row, 8)
 }
 
 pub fn fraction(row: &Row) -> u64 {
-    get64(row, 16)
+    u64::get(row, 16)
 }
 
 // What a call answered: the value that was read, the number of event words, and their sum.
 pub fn answer(row: &Row) -> u16 {
-    get16(row, 28)
+    u16::get(row, 28)
 }
 
 pub fn event_count(row: &Row) -> u16 {
-    get16(row, 6)
+    u16::get(row, 6)
 }
 
 pub fn event_sum(row: &Row) -> u32 {
-    get32(row, 24)
+    u32::get(row, 24)
 }
 
 // What a look saw.
@@ -100,20 +100,20 @@ pub fn blank(row: &Row) -> u8 {
 }
 
 pub fn charge(row: &Row) -> u64 {
-    get64(row, 28)
+    u64::get(row, 28)
 }
 
 // The firmware's formula.
 pub fn seed(row: &Row) -> u32 {
-    get32(row, 24)
+    u32::get(row, 24)
 }
 
 pub fn factor(row: &Row) -> u32 {
-    get32(row, 28)
+    u32::get(row, 28)
 }
 
 pub fn step(row: &Row) -> u32 {
-    get32(row, 32)
+    u32::get(row, 32)
 }
 
 // What was left: the five registers, whether reading is normal and the state valid, the sum of the image, and length and sum of the
@@ -127,18 +127,18 @@ pub fn valid(row: &Row) -> u8 {
 }
 
 pub fn image_sum(row: &Row) -> u32 {
-    get32(row, 44)
+    u32::get(row, 44)
 }
 
 pub fn snapshot_length(row: &Row) -> u32 {
-    get32(row, 48)
+    u32::get(row, 48)
 }
 
 pub fn snapshot_sum(row: &Row) -> u32 {
-    get32(row, 52)
+    u32::get(row, 52)
 }
 
 // The sum of all bytes of the list before it; only the last row has it.
 pub fn list_sum(row: &Row) -> u32 {
-    get32(row, SUMMED)
+    u32::get(row, SUMMED)
 }

@@ -1,8 +1,6 @@
 // CRC-32 as zip files have it: polynomial EDB88320 hex, bits from the low end, begun and ended with all bits turned.
 ghost use Rattle.std.specs.Prelude.{◌<◌};
 
-use rows::numbers::put64;
-
 // The sums of all bytes. It is made once and lent, since a constant would be built anew at each use.
 pub type Table = [u32; 256];
 
@@ -63,9 +61,7 @@ pub fn fed_bytes(table: &Table, begun: u32, bytes: &[u8], count: usize) -> u32 {
 
 // A sum after the eight bytes of a word, the low one first.
 fn fed_word(table: &Table, begun: u32, word: u64) -> u32 {
-    let mut bytes = [0u8; 8];
-    put64(&mut bytes, 0, word);
-    fed_bytes(table, begun, &bytes, 8)
+    fed_bytes(table, begun, &word.to_le_bytes(), 8)
 }
 
 // The number of the first bytes of a slice.

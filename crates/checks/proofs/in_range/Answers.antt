@@ -7,4 +7,4 @@ use Rattle.checks.proofs.in_range.Goals as goal
 pub returns : goal.returns
 unfolding rows_in in_range row
 returns c =
-    let s = c.args.«record».now in rw (c.placed-2.ensures, c.placed.ensures, c.get16-address.ensures, c.get16-page.ensures, ← (word-one s 0))
+    let s = c.args.«record».now in rw (c.placed-2.ensures, c.placed.ensures, c.get-address.ensures, c.get-page.ensures, ← (word-one s 0))

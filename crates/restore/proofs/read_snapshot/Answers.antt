@@ -1,6 +1,7 @@
 use mathlib.Core.Path.{refl, sym, ◌∙◌}
-use Rattle.flash.specs.Chip.{no_pages}
+use Rattle.refusal.proofs.Outcomes.{passed-on}
 use Rattle.lent.proofs.Fitted.{sizes-fit}
+use Rattle.scan.proofs.Turns.{refused}
 use Rattle.restore.proofs.Taken.{sizes-refused, time-refused, scan-refused, read-by-place}
 use Rattle.restore.proofs.read_snapshot.Goals as goal
 
@@ -13,25 +14,18 @@ returns-then-last_second c = (
   record { record_is = refl; array_is = refl; charges_are = refl },
 )
 
-pub scan-number-requires : goal.scan-number-requires
-unfolding no_pages
-scan-number-requires c = refl
-
-pub returns-then-number-ne0 : goal.returns-then-number-ne0
-returns-then-number-ne0 c =
-    scan-refused _ _ _ (λ j. (c.shared_slice_known-1.given j).fits) (sym c.sizes_misfit.ensures ∙ c.if-sizes_misfit.false)
-    (sym c.last_second.ensures ∙ c.if-last_second.false) _ c.scan-number.ensures.0 c.if-number-ne0.true
+pub returns-in_err-indices : goal.returns-in_err-indices
+returns-in_err-indices c =
+    rw (passed-on _ c.from_residual.ensures.1) (scan-refused _ _ _ (λ j. (c.shared_slice_known-1.given j).fits) (sym c.sizes_misfit.ensures ∙ c.if-sizes_misfit.false)
+    (sym c.last_second.ensures ∙ c.if-last_second.false) _ c.in_err-indices.ensures (refused _))
 
 pub take-requires : goal.take-requires
 take-requires c =
-    let n = c.scan-number.ensures in
-    let z = c.if-number-ne0.false in
+    let n = c.in_ok-indices.ensures in
     let f = sizes-fit _ _ _ (sym c.sizes_misfit.ensures ∙ c.if-sizes_misfit.false) in
-    (sym n.0 ∙ z, n.1 z, f.record_long, f.array_long, f.charges_long)
+    (n.0, n.1, f.record_long, f.array_long, f.charges_long)
 
 pub returns : goal.returns
 returns c =
-    let n = c.scan-number.ensures in
-    let z = c.if-number-ne0.false in
     read-by-place _ _ _ (λ j. (c.shared_slice_known-1.given j).fits) (sym c.sizes_misfit.ensures ∙ c.if-sizes_misfit.false)
-    (sym c.last_second.ensures ∙ c.if-last_second.false) _ _ _ _ (sym n.0 ∙ z) c.take.ensures.0 c.take.ensures.1
+    (sym c.last_second.ensures ∙ c.if-last_second.false) _ _ _ _ c.in_ok-indices.ensures.0 c.take.ensures.0 c.take.ensures.1

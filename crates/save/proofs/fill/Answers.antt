@@ -10,8 +10,8 @@ use Rattle.settle.proofs.Slots.{opened-le}
 use native.Mathlib.Omega.{arith}
 use Rattle.save.proofs.fill.Goals as goal
 
-pub overflow_cast-count : goal.overflow_cast-count
-overflow_cast-count c = omega (arith, opened-le c.args.flash.indices)
+pub overflow_cast-number : goal.overflow_cast-number
+overflow_cast-number c = omega (arith, opened-le c.args.flash.indices)
 
 pub put_pages-requires : goal.put_pages-requires
 unfolding page_at
@@ -32,4 +32,4 @@ returns c = let x = c.args in
     let m = p + 256 + 18 * option_byte x.flash.registers.verify_pending in
     let l = c.put_state.new.out in
     let whole : length l ≤ m = omega (arith, c.requires.5, c.page_at.ensures) in
-    filled k (0 + 1 * length x.array.now) 49152 x.count (page_at x.count) p m x.out.now c.put_bytes.new.s c.put32.new.s c.put_pages.new.out l c.put_bytes.ensures (omega arith) c.put32.ensures c.requires.4 c.put_pages.ensures c.page_at.ensures c.put_state.ensures whole
+    filled k (0 + 1 * length x.array.now) 49152 x.count (page_at x.count) p m x.out.now c.put_row.new.to c.put.new.to c.put_pages.new.out l c.put_row.ensures (omega arith) c.put.ensures c.requires.4 c.put_pages.ensures c.page_at.ensures c.put_state.ensures whole

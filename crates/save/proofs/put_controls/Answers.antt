@@ -7,4 +7,4 @@ use Rattle.save.proofs.put_controls.Goals as goal
 pub returns : goal.returns
 unfolding state_fields
 returns c =
-    rw (controls-row, ← c.flag_byte.ensures, ← c.flag_byte-2.ensures, ← c.flag_byte-3.ensures) c.put_bytes.ensures
+    rw (controls-row, ← c.flag_byte.ensures, ← c.flag_byte-2.ensures, ← c.flag_byte-3.ensures) c.put_row.ensures

@@ -14,4 +14,4 @@ returns c =
     let g = c.well_formed.1.1.0.1.1 in
     rw (instants-row r.ready r.swe_ready r.program_ready r.erase_ready r.recovery s.pulse_since r.verify_ready
     (omega (arith, g.0)) (omega (arith, g.0)) (omega (arith, g.0)) (omega (arith, g.0)) (omega (arith, g.0)) (omega (arith, g.1)) (omega (arith, g.0)))
-    c.put_halves.ensures
+    c.put_row.ensures

@@ -1,6 +1,6 @@
 -- `save::put_pages` meets its contract. The loop's invariant: the pages of the slots passed stand after what was there.
 -- Assumes nothing.
-use Prim.Native.Nat.{◌-◌, ◌≤◌}
+use Prim.Native.Nat.{◌≤◌}
 use mathlib.Core.Path.{◌≡◌}
 use mathlib.Core.List.{◌++◌}
 use lib.ListN.{length, take}
@@ -9,7 +9,4 @@ use Rattle.save.proofs.Filled.{page_run}
 use Rattle.save.proofs.put_pages.Given as goal
 
 abbrev pub invariant-loop-slot : goal.invariant-loop-slot
-invariant-loop-slot l = (l.slot ≤ l.count) × (l.count ≤ 384) × (length l.out ≡ length l.initial.out) × (take (page_at l.slot) l.out ≡ take pages_place l.initial.out ++ page_run l.indices l.charges l.slot 0)
-
-abbrev pub decreases-loop-slot : goal.decreases-loop-slot
-decreases-loop-slot l = l.count - l.slot
+invariant-loop-slot l = (l.count ≤ 384) × (length l.out ≡ length l.initial.out) × (take (page_at l.slot) l.out ≡ take pages_place l.initial.out ++ page_run l.indices l.charges l.slot 0)

@@ -11,13 +11,13 @@ use Rattle.save.proofs.Runs.{after, nothing-row, sense-row}
 use native.Mathlib.Omega.{arith}
 use Rattle.save.proofs.put_pending.Goals as goal
 
-pub put16-requires : goal.put16-requires
-put16-requires c =
+pub put-requires : goal.put-requires
+put-requires c =
     let h = rw c.in-Some.is at c.requires in
     simp length-set (omega arith)
 
-pub put_halves-requires : goal.put_halves-requires
-put_halves-requires c =
+pub put_row-requires : goal.put_row-requires
+put_row-requires c =
     let h = rw c.in-Some.is at c.requires in
     omega (arith, length-set c.args.out.now c.args.at 1)
 
@@ -38,9 +38,9 @@ returns-in-Some c =
     let s = x.out.now in
     let a = c.in-Some.due.address in
     let t = c.in-Some.due.at in
-    let m = c.put16.new.s in
-    let n = c.put_halves.new.s in
+    let m = c.put.new.to in
+    let n = c.put_row.new.to in
     let p = put_one s k 1 (omega arith) (omega arith) in
-    let q = after (k + 1) (k + 1 + 2) (k + 3) (set s k 1) m _ (bytes 2 a) c.put16.ensures p (omega arith) in
-    let r = after (k + 3) (k + 3 + 16) (k + 19) m n _ (row_bytes 8 (t.1 ∷ t.0 ∷ [])) c.put_halves.ensures q (omega arith) in
+    let q = after (k + 1) (k + 1 + 2) (k + 3) (set s k 1) m _ (bytes 2 a) c.put.ensures p (omega arith) in
+    let r = after (k + 3) (k + 3 + 16) (k + 19) m n _ (row_bytes 8 (t.1 ∷ t.0 ∷ [])) c.put_row.ensures q (omega arith) in
     rw (c.in-Some.is, sense-row a t (omega (arith, c.in-Some.known_told-1-own.given))) (omega arith, r ∙ simp append_assoc)

@@ -12,8 +12,8 @@ use native.Mathlib.Omega.{arith}
 use borrow.Author.Rules.{rules}
 use Rattle.save.proofs.put_state.Goals as goal
 
-pub put_bytes-requires : goal.put_bytes-requires
-put_bytes-requires c = let long : length c.args.flash.sensed ≡ 4 = search rules in omega arith
+pub put_row-requires : goal.put_row-requires
+put_row-requires c = let long : length c.args.flash.sensed ≡ 4 = search rules in omega arith
 
 pub returns : goal.returns
 unfolding state_fields
@@ -35,6 +35,6 @@ returns c =
     let long : length sensed ≡ 4 = search rules in
     let m = k + 256 + 18 * option_byte x.flash.registers.verify_pending in
     let p₆ =
-    row-after 1 e 4 m l₅ c.put_bytes.new.s sensed sensed _ refl long
-    (omega (arith, c.put_pending-end.ensures.0)) c.put_bytes.ensures p₅ in
+    row-after 1 e 4 m l₅ c.put_row.new.to sensed sensed _ refl long
+    (omega (arith, c.put_pending-end.ensures.0)) c.put_row.ensures p₅ in
     rw (state-row v) (p₆ ∙ simp append_assoc)

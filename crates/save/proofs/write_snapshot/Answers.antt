@@ -1,50 +1,31 @@
 -- `save::write_snapshot` meets its contract: a refusal at each check is the one asked for, and past the checks the snapshot fills
 -- the beginning of the output. Assumes nothing.
-use Prim.Native.Nat.{◌-◌}
-use Rattle.layout.specs.Layout.{accepted}
-use lib.Seq.{length-take-le}
 use lib.ListN.{length}
-use mathlib.Core.Bool.{true, false}
-use mathlib.Core.Path.{◌≡◌, sym, ◌∙◌}
-use Rattle.lent.specs.Memory.{Memory, misfits}
-use Rattle.lent.proofs.Fitted.{sizes-fit, fitted}
-use Rattle.save.proofs.Told.{length-written, told-2, told-3, told-8, told-done}
+use Rattle.refusal.proofs.Outcomes.{number-some, passed-on}
+use Rattle.lent.specs.Memory.{Memory}
+use Rattle.save.proofs.Told.{put_front, length-written, told-first, told-8, told-none}
 use native.Mathlib.Omega.{arith}
 use Rattle.save.proofs.write_snapshot.Goals as goal
 
-pub returns-then-sizes_misfit : goal.returns-then-sizes_misfit
-returns-then-sizes_misfit c = told-2 _ _ (sym c.sizes_misfit.ensures ∙ c.if-sizes_misfit.true)
+pub returns-in_err-flash-clause-answer : goal.returns-in_err-flash-clause-answer
+returns-in_err-flash-clause-answer c =
+    rw (passed-on _ c.from_residual.ensures.1) (told-first _ _ c.in_err-flash.ensures.told (λ z. omega (arith, number-some c.in_err-flash.field-0.0)))
 
-pub accepts-requires : goal.accepts-requires
-accepts-requires c = let a = c.args in (sizes-fit (length a.«record».now) (length a.array.now) (length a.charges.now) (sym c.sizes_misfit.ensures ∙ c.if-sizes_misfit.false)).record_long
-
-pub returns-then-not-accepts : goal.returns-then-not-accepts
-returns-then-not-accepts c = told-3 _ _ (sym c.sizes_misfit.ensures ∙ c.if-sizes_misfit.false) (sym c.accepts.ensures ∙ c.if-not-accepts.true)
-
-pub read-flash-requires : goal.read-flash-requires
-read-flash-requires c = let a = c.args in (sizes-fit (length a.«record».now) (length a.array.now) (length a.charges.now) (sym c.sizes_misfit.ensures ∙ c.if-sizes_misfit.false)).record_long
-
-pub returns-then-out-length : goal.returns-then-out-length
-returns-then-out-length c = let x = c.args in
+pub returns-then-out-length-clause-answer : goal.returns-then-out-length-clause-answer
+returns-then-out-length-clause-answer c =
+    let x = c.args in
     let m : Memory = record { bytes = x.«record».now; array = x.array.now; charges = x.charges.now } in
-    let a : misfits m ≡ false = sym c.sizes_misfit.ensures ∙ c.if-sizes_misfit.false in
-    let b : accepted m.bytes ≡ true = sym c.accepts.ensures ∙ c.if-not-accepts.false in
+    let o = c.in_ok-flash.ensures in
     let n = c.snapshot_length-length.result in
-    let e = length-written m c.read-flash.result c.opened-count.result n (sizes-fit _ _ _ a) (λ k. (c.shared_slice_known-1.given k).fits) c.read-flash.ensures c.opened-count.ensures.0 c.snapshot_length-length.ensures in
-    told-8 m x.out.now a b n e c.if-out-length.true
-
-pub fill-requires : goal.fill-requires
-fill-requires c = let x = c.args in
-    let m : Memory = record { bytes = x.«record».now; array = x.array.now; charges = x.charges.now } in
-    let z = sizes-fit _ _ _ (sym c.sizes_misfit.ensures ∙ c.if-sizes_misfit.false) in
-    let f = fitted m z (sym c.accepts.ensures ∙ c.if-not-accepts.false) in
-    (f.array_long, f.charges_long, rw c.read-flash.ensures f.index_long, rw c.read-flash.ensures f.slots, c.opened-count.ensures.0, length-take-le (c.snapshot_length-length.result - 0) x.out.now (omega arith) ∙ omega arith)
+    let e = length-written m c.in_ok-flash.flash c.opened-count.result n o.fits.array_long o.fits.charges_long (λ k. (c.type_inv.«record» k).fits) o.told.1 c.opened-count.ensures.0 c.snapshot_length-length.ensures in
+    told-8 m (length x.out.now) o.told.0 n e c.if-out-length.true
 
 pub returns : goal.returns
-returns c = let x = c.args in
+returns c =
+    let x = c.args in
     let m : Memory = record { bytes = x.«record».now; array = x.array.now; charges = x.charges.now } in
-    let a : misfits m ≡ false = sym c.sizes_misfit.ensures ∙ c.if-sizes_misfit.false in
-    let b : accepted m.bytes ≡ true = sym c.accepts.ensures ∙ c.if-not-accepts.false in
+    let o = c.in_ok-flash.ensures in
     let n = c.snapshot_length-length.result in
-    let e = length-written m c.read-flash.result c.opened-count.result n (sizes-fit _ _ _ a) (λ k. (c.shared_slice_known-1.given k).fits) c.read-flash.ensures c.opened-count.ensures.0 c.snapshot_length-length.ensures in
-    told-done m x.out.now a b n e c.if-out-length.false c.fill.new.out (rw c.read-flash.ensures at c.fill.ensures)
+    let e = length-written m c.in_ok-flash.flash c.opened-count.result n o.fits.array_long o.fits.charges_long (λ k. (c.type_inv.«record» k).fits) o.told.1 c.opened-count.ensures.0 c.snapshot_length-length.ensures in
+    let z = told-none m (length x.out.now) o.told.0 n e c.if-out-length.false in
+    record { answer = (z, e); out = put_front c.fill.new.out x.out.now _ n (rw o.told.1 at c.fill.ensures) e (omega arith) }

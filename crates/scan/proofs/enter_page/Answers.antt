@@ -6,4 +6,4 @@ use Rattle.scan.proofs.enter_page.Goals as goal
 
 pub returns : goal.returns
 unfolding with_page
-returns c = rw (c.wide-page.ensures, c.get16.ensures, add-one)
+returns c = rw (c.from-page.ensures, c.get.ensures, add-one)

@@ -8,24 +8,9 @@ use Rattle.scan.proofs.none_over.Goals as goal
 pub loop-i-init : goal.loop-i-init
 loop-i-init c = record { most = omega arith; rest = rw (sub-zero, mul-zero, add-zero) }
 
-pub overflow_mul-i : goal.overflow_mul-i
-overflow_mul-i c = omega arith
-
-pub overflow_add-at : goal.overflow_add-at
-overflow_add-at c = omega arith
-
-pub get64-requires : goal.get64-requires
-get64-requires c = omega arith
-
-pub overflow_add-i : goal.overflow_add-i
-overflow_add-i c = omega arith
-
-pub loop-i-smaller : goal.loop-i-smaller
-loop-i-smaller c = omega arith
-
 pub loop-i-preserved : goal.loop-i-preserved
 loop-i-preserved c =
-    looked-more c.loop-i.invariant c.over-all.result c.loop-i-test.true c.requires (rw c.get64.ensures at c.over-all.ensures)
+    looked-more c.loop-i.invariant c.over-all.result c.loop-i-test.true c.requires (rw c.get.ensures at c.over-all.ensures)
 
 pub returns : goal.returns
 returns c = looked-through c.loop-i.invariant c.loop-i-test.false

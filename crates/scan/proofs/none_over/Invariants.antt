@@ -1,11 +1,7 @@
 -- `scan::none_over` meets its contract. The loop's invariant: what all the charges answer is what those passed answer, by the highest bit of
 -- their numbers together, or else what the rest answers. Assumes nothing.
-use Rattle.std.proofs.Common.{◌-◌}
 use Rattle.scan.proofs.Charges.{Looked}
 use Rattle.scan.proofs.none_over.Given as goal
 
 abbrev pub invariant-loop-i : goal.invariant-loop-i
 invariant-loop-i l = Looked l.count l.bytes l.at l.all l.i
-
-abbrev pub decreases-loop-i : goal.decreases-loop-i
-decreases-loop-i l = l.count - l.i

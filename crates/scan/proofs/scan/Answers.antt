@@ -1,36 +1,40 @@
 -- `scan::scan` meets its contract: the fields passed so far rewrite the definition to the next one. Assumes nothing.
-use Rattle.std.proofs.Common.{◌≤◌, length, sym, ap, ◌∙◌, arith, lt-ltb}
+use Rattle.std.proofs.Common.{◌≤◌, sym, ◌∙◌, refl, arith, lt-ltb}
+use Rattle.refusal.proofs.Outcomes.{passed-on}
 use Rattle.cell.specs.Cell.{pages}
+use Rattle.flash.specs.Chip.{no_pages}
 use Rattle.snapshot.specs.Places.{count_number, scan_number}
-use Rattle.scan.proofs.Turns.{first_stops, first_passes, counted, place-small}
-use Rattle.snapshot.proofs.Index.{length-no_pages}
+use Rattle.scan.proofs.Turns.{first_stops, first_passes, counted, place-small, refused}
 use Rattle.scan.proofs.scan.Goals as goal
 
 pub returns-then-bytes-lt-FIRST_PAGE : goal.returns-then-bytes-lt-FIRST_PAGE
 unfolding scan_number count_number
-returns-then-bytes-lt-FIRST_PAGE c = (rw (lt-ltb _ _ c.if-bytes-lt-FIRST_PAGE.true), λ e. absurd (omega arith))
+returns-then-bytes-lt-FIRST_PAGE c = rw (lt-ltb _ _ c.if-bytes-lt-FIRST_PAGE.true)
 
-pub scan_pages-number-requires : goal.scan_pages-number-requires
-scan_pages-number-requires c =
-    (omega arith, ap length c.requires ∙ length-no_pages)
-
-pub returns-then-number-ne0 : goal.returns-then-number-ne0
-returns-then-number-ne0 c =
+pub returns-in_err-check_pages : goal.returns-in_err-check_pages
+unfolding no_pages
+returns-in_err-check_pages c =
     let few : c.count_in-count.result ≤ pages = omega arith in
-    let n = counted _ _ _ c.if-bytes-lt-FIRST_PAGE.false c.count_in-count.ensures few c.requires in
-    (first_stops _ c.scan_pages-number.ensures.0 c.if-number-ne0.true ∙ sym n, λ z. absurd (c.if-number-ne0.true z))
+    let n = counted _ _ _ c.if-bytes-lt-FIRST_PAGE.false c.count_in-count.ensures few refl in
+    rw (passed-on _ c.from_residual.ensures.1) (first_stops _ c.in_err-check_pages.ensures.0 (refused _) ∙ sym n)
 
-pub state_number-requires : goal.state_number-requires
-state_number-requires c =
+pub check_state-requires : goal.check_state-requires
+check_state-requires c =
     let few : c.count_in-count.result ≤ pages = omega arith in
     rw c.page_at.ensures (place-small _ few)
 
+pub returns-in_err-check_state : goal.returns-in_err-check_state
+unfolding no_pages
+returns-in_err-check_state c =
+    let few : c.count_in-count.result ≤ pages = omega arith in
+    let n = counted _ _ _ c.if-bytes-lt-FIRST_PAGE.false c.count_in-count.ensures few refl in
+    rw (passed-on _ c.from_residual-in_err-check_state.ensures.1) (c.in_err-check_state.ensures ∙ rw c.page_at.ensures (sym (n ∙ first_passes _ c.in_ok-check_pages.ensures.0 refl)))
+
 pub returns : goal.returns
+unfolding no_pages
 returns c =
     let few : c.count_in-count.result ≤ pages = omega arith in
-    let e = c.scan_pages-number.ensures in
     let k = c.count_in-count.ensures in
-    let n = counted _ _ _ c.if-bytes-lt-FIRST_PAGE.false k few c.requires in (
-      c.state_number.ensures ∙ rw c.page_at.ensures (sym (n ∙ first_passes _ e.0 c.if-number-ne0.false)),
-      λ z. rw (← k, ← c.requires) (e.1 c.if-number-ne0.false),
-    )
+    let e = c.in_ok-check_pages.ensures in
+    let n = counted _ _ _ c.if-bytes-lt-FIRST_PAGE.false k few refl in
+    (n ∙ first_passes _ e.0 refl ∙ rw (← c.page_at.ensures) (sym c.in_ok-check_state.ensures), rw (← k) e.1)

@@ -2,13 +2,9 @@
 -- within the opened pages, distinct, and marked.
 -- Assumes nothing.
 use lib.ListN.{length}
-use Prim.Native.Nat.{◌≤◌}
 use mathlib.Core.Path.{◌≡◌}
 use Rattle.checks.proofs.Marks.{Passed}
 use Rattle.checks.proofs.slots.slots_sound.Given as goal
 
 abbrev pub invariant-loop-i : goal.invariant-loop-i
-invariant-loop-i l = (l.i ≤ 384) × (length l.marked ≡ 385) × Passed l.used l.i l.indices l.marked
-
-abbrev pub decreases-loop-i : goal.decreases-loop-i
-decreases-loop-i l = l.i
+invariant-loop-i l = (length l.marked ≡ 385) × Passed l.used l.i l.indices l.marked

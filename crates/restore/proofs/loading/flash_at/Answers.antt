@@ -14,12 +14,12 @@ state_length-requires c = let x = c.args in omega (arith, state-least x.bytes.no
 pub overflow_sub-at : goal.overflow_sub-at
 overflow_sub-at c = let x = c.args in omega (arith, state-least x.bytes.now x.at)
 
-pub get_bytes-requires : goal.get_bytes-requires
-get_bytes-requires c =
+pub get_row-requires : goal.get_row-requires
+get_row-requires c =
     let x = c.args in
     omega (arith, state-least x.bytes.now x.at)
 
 pub returns : goal.returns
 unfolding flash_at
 returns c =
-    rw (c.get_bytes.ensures, c.state_length.ensures, c.time_at-since.ensures, c.registers_at-registers.ensures)
+    rw (c.get_row.ensures, c.state_length.ensures, c.time_at-since.ensures, c.registers_at-registers.ensures)

@@ -1,6 +1,5 @@
 -- `restore::loading::load_pages` meets its contract. The loop's invariant: the charges of the pages passed are stored from the first slot on.
 -- Assumes nothing.
-use Prim.Native.Nat.{◌-◌, ◌≤◌}
 use mathlib.Core.Path.{◌≡◌}
 use lib.ListN.{length}
 use lib.Seq.{sets}
@@ -10,7 +9,4 @@ use Rattle.restore.proofs.loading.load_pages.Given as goal
 
 abbrev pub invariant-loop-slot : goal.invariant-loop-slot
 invariant-loop-slot l =
-    (l.slot ≤ l.count) × (length l.charges ≡ array_cells) × (l.charges ≡ sets l.initial.charges 0 (pages_cells l.slot l.bytes pages_place))
-
-abbrev pub decreases-loop-slot : goal.decreases-loop-slot
-decreases-loop-slot l = l.count - l.slot
+    (length l.charges ≡ array_cells) × (l.charges ≡ sets l.initial.charges 0 (pages_cells l.slot l.bytes pages_place))
