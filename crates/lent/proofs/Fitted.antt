@@ -21,7 +21,7 @@ use Rattle.layout.specs.Whole.{PendingSound}
 use Rattle.layout.proofs.Back.{decoded-index}
 use Rattle.layout.proofs.Accepted.{accepted-sound}
 use Rattle.lent.specs.Memory.{Memory, chip_in, record_misfits, misfits, sizes_misfit}
-use Rattle.lent.specs.Looked.{register_refusal}
+use Rattle.lent.specs.Looked.{register_refusal, memory_refusal}
 use Rattle.flash.proofs.Inside.{pulse_inside}
 
 pub record Sizes (bytes array charges : ℕ) : Type 0 where
@@ -69,3 +69,13 @@ opens m (Ok s) e a =
     by true y h z = h
     by false true h z = absurd (omega (arith, z))
     by false false h z = absurd (omega (arith, z))
+
+-- memory that a call or look begins on
+pub memory-taken : (m : Memory) → memory_refusal m ≡ 0 → (misfits m ≡ false) × (accepted m.bytes ≡ true)
+unfolding memory_refusal
+memory-taken m e = by (misfits m) (accepted m.bytes) refl refl e
+  where
+    by : (x y : Bool) → misfits m ≡ x → accepted m.bytes ≡ y → ◌≡◌ {A = ℕ} (cond x 2 (cond (not y) 3 0)) 0 → (misfits m ≡ false) × (accepted m.bytes ≡ true)
+    by false true g h z = (g, h)
+    by false false g h z = absurd (omega (arith, z))
+    by true y g h z = absurd (omega (arith, z))

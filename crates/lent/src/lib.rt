@@ -20,7 +20,7 @@ pub enum Request {
 }
 
 // What a call that is not refused answers: the value that a read gives, and how many event words were given.
-#[derive(Clone, Copy, Debug, PartialEq, Eq)]
+#[derive(Clone, Copy, Debug, Default, PartialEq, Eq)]
 pub struct Answer {
     pub value: u16,
     pub count: usize,

@@ -144,10 +144,11 @@ pub told_is : {o : Outcome} {number value count : ℕ} {bytes array charges even
 told_is t v =
     λ i. record { number = sym t.number_is i; value = sym v i; memory = record { bytes = sym t.record_is i; array = sym t.array_is i; charges = sym t.charges_are i }; events = sym t.events_are i; count = sym t.count_is i }
 
-pub refused-first : (end from : ℕ) (calls lent : List ℕ) (m : Memory) → from < end → (n : ℕ)
-    → Told (asked (call_at calls from lent) m) (suc n) 0 m.bytes m.array m.charges lent → 0 ≡ (asked (call_at calls from lent) m).value
-    → Replays from (asks_after (idle lent m) (end - from) from calls) lent m (from + 1) (suc n) 0 0 m.bytes m.array m.charges lent
-refused-first end from calls lent m h n t v =
+pub refused-first : (end from : ℕ) (calls lent : List ℕ) (m : Memory) → from < end → (n : ℕ) → 1 ≤ n
+    → Told (asked (call_at calls from lent) m) n 0 m.bytes m.array m.charges lent → 0 ≡ (asked (call_at calls from lent) m).value
+    → Replays from (asks_after (idle lent m) (end - from) from calls) lent m (from + 1) n 0 0 m.bytes m.array m.charges lent
+refused-first end from calls lent m h zero f t v = absurd (omega arith)
+refused-first end from calls lent m h (suc n) f t v =
     let o = told_is t v in
     let s = ended-stop end from calls (idle lent m) h (rw (o, eqb-suc-zero n)) in
     replays end from calls lent m (rw (s, o, add-one from))

@@ -22,7 +22,8 @@ use Rattle.layout.proofs.Accepted.{accepted-writes-back, accepted-sound, accepte
 use Rattle.lent.specs.declared.Request.{Request}
 use Rattle.lent.specs.Memory.{Memory, chip_in, memory_of, misfits}
 use Rattle.lent.specs.Asked.{call_of, call_refusal, refusal, outcome_by, outcome}
-use Rattle.lent.proofs.Fitted.{Sizes, sizes-fit, fitted}
+use Rattle.lent.specs.Looked.{memory_refusal}
+use Rattle.lent.proofs.Fitted.{Sizes, sizes-fit, fitted, memory-taken}
 use Rattle.lent.proofs.Tells.{passes}
 use Rattle.ledger.specs.Lists.{Numbers}
 use Rattle.ledger.proofs.Kept.{fits-step, sound-step, numbers-arguments}
@@ -31,9 +32,12 @@ use Rattle.listing.specs.Held.{chip, Ready, Called}
 -- ---- from memory
 
 -- memory that is not refused holds such a chip, and is what that chip is written as
-module _ (m : Memory) (sizes : misfits m ≡ false) (known : accepted m.bytes ≡ true) (small : (b : ℕ) → at m.bytes b < 256) where
+module _ (m : Memory) (taken : memory_refusal m ≡ 0) (small : (b : ℕ) → at m.bytes b < 256) where
+  known : accepted m.bytes ≡ true
+  known = (memory-taken m taken).1
+
   lengths : Sizes (length m.bytes) (length m.array) (length m.charges)
-  lengths = sizes-fit (length m.bytes) (length m.array) (length m.charges) sizes
+  lengths = sizes-fit (length m.bytes) (length m.array) (length m.charges) (memory-taken m taken).0
 
   pub ready-start : Ready (chip_in m)
   ready-start =

@@ -67,3 +67,5 @@ word_back PowerOff h = packed-in 6 0 0 (omega arith) (omega arith)
 word_back (Environment mode modul oscillator) h =
     packed-in 7 mode (flag_byte modul + 2 * flag_byte oscillator) (omega arith) (flags-small modul oscillator)
     ∙ environment-back mode modul oscillator (omega arith)
+
+pub ruleset numbers = (numbers-in)

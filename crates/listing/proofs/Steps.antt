@@ -8,6 +8,8 @@ use native.Mathlib.Numerals.{add-one}
 use native.Mathlib.Omega.{arith}
 use Rattle.flash.specs.declared.Flash.{Flash}
 use Rattle.flash.specs.Chip.{Chip}
+use Rattle.time.specs.declared.Time.{Time}
+use Rattle.lent.specs.declared.Request.{Request}
 use Rattle.lent.specs.Memory.{memory_of}
 use Rattle.lent.specs.Asked.{Outcome}
 use Rattle.listing.specs.Calls.{call_at}
@@ -65,17 +67,22 @@ module _ {end : ℕ} {calls : List ℕ} {i : ℕ} {k : Chip} {lent : List ℕ} {
   pub gone-end : end ≤ j → ended end i calls (idle lent (memory_of k)) ≡ record { done = j; last = leaves k' events 0 0 0 }
   gone-end h = g.same ∙ ended-end end j calls (idle events (memory_of k')) h
 
-  module _ {k'' : Chip} {events' : List ℕ} {number value count : ℕ} (h : j < end)
-      (c : Called (call_at calls j events).request (call_at calls j events).time events k' k'' events' number value count) where
-    pub gone-stop : stops (call_at calls j events).request number count ≡ true
-        → ended end i calls (idle lent (memory_of k)) ≡ record { done = j + 1; last = leaves k'' events' number value count }
-    gone-stop e = g.same ∙ step-stop end j calls events k' k'' h c e
+  -- the call there, by what it asks for and when
+  module _ {k'' : Chip} {events' : List ℕ} {number value count : ℕ} {q : Request} {t : Time} (h : j < end)
+      (is : (q ≡ (call_at calls j events).request) × (t ≡ (call_at calls j events).time)) (c : Called q t events k' k'' events' number value count) where
+    there : Called (call_at calls j events).request (call_at calls j events).time events k' k'' events' number value count
+    there = rw (is.0, is.1) at c
 
-    pub gone-on : stops (call_at calls j events).request number count ≡ false → Gone end calls i k lent (j + 1) k'' events'
+    pub gone-stop : true ≡ stops q number count
+        → ended end i calls (idle lent (memory_of k)) ≡ record { done = j + 1; last = leaves k'' events' number value count }
+    gone-stop e = g.same ∙ step-stop end j calls events k' k'' h there (sym (rw is.0 at e))
+
+    pub gone-on : false ≡ stops q number count → Gone end calls i k lent (j + 1) k'' events'
     gone-on e =
-        let s = step-events end j calls events k' k'' h c e in
+        let d = sym (rw is.0 at e) in
+        let s = step-events end j calls events k' k'' h there d in
         record {
-          same = g.same ∙ step-on end j calls events k' k'' h c e ∙ ap (λ (es : List ℕ). ended end (j + 1) calls (idle es (memory_of k''))) (sym s);
+          same = g.same ∙ step-on end j calls events k' k'' h there d ∙ ap (λ (es : List ℕ). ended end (j + 1) calls (idle es (memory_of k''))) (sym s);
           ready = c.ready;
           events_stay = s ∙ g.events_stay;
         }

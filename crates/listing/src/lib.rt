@@ -1,17 +1,29 @@
 // Calls as numbers: kind × 2^24 + first × 2^8 + second.
 #![tactic(auto)]
 
-ghost use Rattle.std.specs.Prelude.{◌≡◌, ◌+◌, ◌*◌, ◌<◌};
+ghost use Rattle.std.specs.Prelude.{◌≡◌, ◌+◌, ◌*◌, ◌<◌, [], length};
 ghost use Rattle.layout.specs.Layout.{flag_byte};
-ghost use Rattle.listing.specs.Calls.{request_by, request_in, packed, word_of};
+ghost use Rattle.layout.specs.Whole.{TimeFits};
+ghost use Rattle.ledger.specs.Lists.{Numbers};
+ghost use Rattle.listing.specs.Calls.{request_by, request_in, call_at, packed, word_of};
 
-use lent::Request;
+use lent::{Answer, Request};
+use refusal::Refusal;
+use time::Time;
+
+// The first call of a list that is not done, and the outcome of the last one that is.
+#[derive(Clone, Copy, Debug, PartialEq, Eq)]
+pub struct Replayed {
+    pub done: usize,
+    pub last: Result<Answer, Refusal>,
+}
 
 // The values of a kind and of a first argument in a call's number.
 pub const KIND: u64 = 0x100_0000;
 
 const FIRST: u64 = 0x100;
 
+#[tactic(auto, unfolding(crate::specs::Calls::request_by))]
 fn request_by(kind: u64, first: u16, second: u8) -> Request
     ensures { result ≡ request_by kind first second }
 {
@@ -27,12 +39,26 @@ fn request_by(kind: u64, first: u16, second: u8) -> Request
     }
 }
 
+#[tactic(auto, unfolding(crate::specs::Calls::request_in))]
 pub fn request_in(what: u64) -> Request
     ensures { result ≡ request_in what }
 {
     let first = what / FIRST % 0x1_0000;
     let second = what % FIRST;
     request_by(what / KIND, first as u16, second as u8)
+}
+
+// The i-th call of a list: what it asks for, and when.
+#[tactic(auto, using(crate::proofs::Numbers::numbers))]
+pub fn call_at(calls: &[u64], i: usize) -> (Request, Time)
+    requires { 3 * i + 2 < length calls.now }
+    ensures is { (result.0 ≡ (call_at calls.now i []).request) × (result.1 ≡ (call_at calls.now i []).time) }
+    ensures fit { Numbers result.0 × TimeFits result.1 }
+{
+    (
+        request_in(calls[3 * i]),
+        Time(calls[3 * i + 1], calls[3 * i + 2]),
+    )
 }
 
 fn packed(kind: u64, first: u16, second: u8) -> u64
@@ -46,11 +72,7 @@ fn packed(kind: u64, first: u16, second: u8) -> u64
 fn flags(module: bool, oscillator: bool) -> u8
     ensures { result ≡ flag_byte «module» + 2 * flag_byte oscillator }
 {
-    if module {
-        if oscillator { 3 } else { 1 }
-    } else {
-        if oscillator { 2 } else { 0 }
-    }
+    u8::from(module) + 2 * u8::from(oscillator)
 }
 
 pub fn word_of(request: Request) -> u64

@@ -1,10 +1,12 @@
--- What `replay` answers, by where it returns: with nothing to do; where the first call is refused by 2 or 3; and after the run. Assumes nothing.
+-- What `replay` answers, by where it returns: with nothing to do; where the first call is refused by what memory is; and after the run.
+-- Assumes nothing.
 use mathlib.Core.Path.{◌≡◌, refl, sym, ap, ◌∙◌}
 use mathlib.Core.Bool.{Bool, true, false, cond}
 use mathlib.Core.List.{List}
-use Prim.Native.Nat.{ℕ, ◌-◌, ◌*◌, ◌/◌, ◌≤◌}
+use Prim.Native.Nat.{ℕ, ◌-◌, ◌/◌, ◌≤◌}
 use native.Mathlib.Omega.{arith}
-use borrow.Author.Tests.{ltb-true}
+use borrow.Author.Tests.{ltb-true, ltb-false}
+use Rattle.std.specs.Prelude.{min}
 use lib.Dec.{ltb}
 use Rattle.flash.specs.declared.Flash.{Flash}
 use Rattle.layout.specs.Layout.{encoded, decoded}
@@ -13,12 +15,13 @@ use Rattle.listing.specs.Replaying.{end_in, idle, asks_after, Replays}
 use Rattle.listing.specs.Held.{chip, leaves, ended}
 use Rattle.listing.proofs.Going.{ended-end, replays}
 
-pub end-inside : (to words : ℕ) → 3 * end_in to words ≤ words
-end-inside to words = by (ltb to (words / 3)) (λ h. omega (arith, ltb-true to (words / 3) h))
+-- the end of the list as the code has it
+pub end_is : (to words : ℕ) → end_in to words ≡ min to (words / 3)
+end_is to words = by (ltb to (words / 3)) refl
   where
-    by : (b : Bool) → (b ≡ true → 3 * to ≤ words) → 3 * cond b to (words / 3) ≤ words
-    by true h = h refl
-    by false h = omega arith
+    by : (b : Bool) → ltb to (words / 3) ≡ b → cond b to (words / 3) ≡ min to (words / 3)
+    by true h = omega (arith, ltb-true to (words / 3) h)
+    by false h = omega (arith, ltb-false to (words / 3) h)
 
 module _ (end from : ℕ) (calls lent : List ℕ) (m : Memory) where
   pub nothing-done : end ≤ from → Replays from (asks_after (idle lent m) (end - from) from calls) lent m from 0 0 0 m.bytes m.array m.charges lent

@@ -1,29 +1,15 @@
-// The replay of a list of calls on lent memory: the record is read and written once, and the calls run on the state by value.
+// The replay of a list of calls on lent memory: the record is read and written once, and the calls run on the state that is held.
 #![tactic(auto)]
 
-ghost use Rattle.std.specs.Prelude.{◌≡◌};
-ghost use Rattle.listing.specs.Replaying.{end_in, asks, Replays};
+ghost use Rattle.refusal.specs.Refusal.{told};
+ghost use Rattle.lent.specs.Asked.{value_of, count_of};
+ghost use Rattle.listing.specs.Replaying.{asks, Replays};
 
-use checks::accepts;
-use coding::{read, write};
-use lent::checking::sizes_misfit;
+use coding::write;
+use lent::Answer;
+use lent::opening::opened;
+use listing::Replayed;
 use running::run;
-
-// The first call that is not done, and what the last one said: its refusal's number, its value, how many event words it gave.
-#[derive(Clone, Copy)]
-pub struct Replayed {
-    pub done: usize,
-    pub number: u32,
-    pub value: u16,
-    pub count: usize,
-}
-
-fn end_in(to: usize, words: usize) -> usize
-    ensures { result ≡ end_in to words }
-{
-    let whole = words / 3;
-    if to < whole { to } else { whole }
-}
 
 // The calls from..to, up to one that is refused, gives event words or reads. Past the list's end there is nothing to do.
 pub fn replay(
@@ -35,41 +21,24 @@ pub fn replay(
     from: usize,
     to: usize,
 ) -> Replayed
-    ensures { Replays from (asks from to calls.now events.old (record { bytes = «record».old; array = array.old; charges = charges.old })) events.old (record { bytes = «record».old; array = array.old; charges = charges.old }) result.done result.number result.value result.count «record».new array.new charges.new events.new }
+    ensures { Replays from (asks from to calls.now events.old (record { bytes = «record».old; array = array.old; charges = charges.old })) events.old (record { bytes = «record».old; array = array.old; charges = charges.old }) result.done (told result.last) (value_of result.last) (count_of result.last) «record».new array.new charges.new events.new }
 {
-    let end = end_in(to, calls.len());
+    let end = to.min(calls.len() / 3);
     if end <= from {
         return Replayed {
             done: from,
-            number: 0,
-            value: 0,
-            count: 0,
+            last: Ok(Answer::default()),
         };
     }
-    if sizes_misfit(record.len(), array.len(), charges.len()) {
-        return Replayed {
+    match opened(record, array, charges) {
+        Ok(mut flash) => {
+            let ran = run(&mut flash, array, charges, events, calls, from, end);
+            write(record, flash);
+            ran
+        }
+        Err(refusal) => Replayed {
             done: from + 1,
-            number: 2,
-            value: 0,
-            count: 0,
-        };
-    }
-    if !accepts(record) {
-        return Replayed {
-            done: from + 1,
-            number: 3,
-            value: 0,
-            count: 0,
-        };
-    }
-    let flash = read(record);
-    let ran = run(flash, array, charges, events, calls, from, end);
-    let after = ran.flash;
-    write(record, after);
-    Replayed {
-        done: ran.done,
-        number: ran.number,
-        value: ran.value,
-        count: ran.count,
+            last: Err(refusal),
+        },
     }
 }

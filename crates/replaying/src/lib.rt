@@ -4,6 +4,7 @@
 
 ghost use Rattle.listing.specs.Replaying.{asks, Replays};
 
+use refusal::told;
 use replay::replay;
 
 // The calls from..to of a list, three numbers each, as `replay` does them. The answer is the last call's number.
@@ -22,9 +23,10 @@ pub extern "C" fn flash_replay(
 ) -> u32
     ensures { Replays from (asks from to calls.now events.old (record { bytes = «record».old; array = array.old; charges = charges.old })) events.old (record { bytes = «record».old; array = array.old; charges = charges.old }) done.new result value.new count.new «record».new array.new charges.new events.new }
 {
-    let answer = replay(record, array, charges, events, calls, from, to);
-    *done = answer.done as u64;
+    let replayed = replay(record, array, charges, events, calls, from, to);
+    let answer = replayed.last.unwrap_or_default();
+    *done = replayed.done as u64;
     *value = answer.value;
     *count = answer.count as u64;
-    answer.number
+    told(replayed.last)
 }
