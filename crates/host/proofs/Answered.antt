@@ -1,7 +1,7 @@
 -- What a function leaves in its answer's place: the answer, or on a refusal what stood there. Assumes nothing.
 use mathlib.Core.Path.{◌≡◌, refl, sym, ◌∙◌}
 use mathlib.Core.Bool.{Bool, true, false}
-use Prim.Native.Nat.{ℕ, zero, suc}
+use Prim.Native.Nat.{ℕ, zero, suc, ◌≤◌}
 use native.Mathlib.Omega.{arith}
 use Rattle.std.specs.Prelude.{Result, Ok, Err, MatchResult}
 use Rattle.std.specs.Int.{from_bool}
@@ -18,19 +18,19 @@ answer-kept r answer old = by (number r) (number-some r)
     by zero h = absurd (omega arith)
     by (suc n) h = refl
 
-pub answer-placed : {n answer old number new : ℕ} (o : Result ℕ Refusal) → Answers n answer o
+pub answer-placed : (answer old : ℕ) {n number new : ℕ} (o : Result ℕ Refusal) → Answers n answer o
     → (number ≡ told o) × MatchResult o (λ v. new ≡ v) (λ _. new ≡ old) → (number ≡ n) × (new ≡ answered number answer old)
-answer-placed (Ok v) a p = rw p.0 (sym a.0, p.1 ∙ a.1)
-answer-placed {answer = answer} {old = old} (Err r) a p = rw p.0 (a, p.1 ∙ answer-kept r answer old)
+answer-placed answer old (Ok v) a p = rw p.0 (sym a.0, p.1 ∙ a.1)
+answer-placed answer old (Err r) a p = rw p.0 (a, p.1 ∙ answer-kept r answer old)
 
 -- the same of a flag
 flag_is : (b : Bool) → from_bool b ≡ flag_byte b
 flag_is true = refl
 flag_is false = refl
 
-pub flag-placed : {n old number new : ℕ} {answer : Bool} (o : Result Bool Refusal) → Answers n answer o
+pub flag-placed : (answer : Bool) (old : ℕ) {n number new : ℕ} (o : Result Bool Refusal) → Answers n answer o
     → (number ≡ told o) × MatchResult o (λ v. new ≡ from_bool v) (λ _. new ≡ old) → (number ≡ n) × (new ≡ answered number (flag_byte answer) old)
-flag-placed (Ok v) a p = rw p.0 (sym a.0, p.1 ∙ flag_is v ∙ rw a.1)
-flag-placed {old = old} {answer = answer} (Err r) a p = rw p.0 (a, p.1 ∙ answer-kept r (flag_byte answer) old)
+flag-placed answer old (Ok v) a p = rw p.0 (sym a.0, p.1 ∙ flag_is v ∙ rw a.1)
+flag-placed answer old (Err r) a p = rw p.0 (a, p.1 ∙ answer-kept r (flag_byte answer) old)
 
 pub ruleset placed = (answer-placed, flag-placed)
