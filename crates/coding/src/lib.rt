@@ -45,12 +45,9 @@ fn put_scalars(record: &mut [u8], registers: Registers, since: Time)
     requires { length «record».old ≡ record_length }
     ensures { take 142 «record».new ≡ row_bytes 1 (head_of registers) ++ row_bytes 2 (addresses_of registers) ++ row_bytes 8 (halves_of registers since) }
 {
-    let head = head_of(registers);
-    let addresses = addresses_of(registers);
-    let halves = halves_of(registers, since);
-    put_row(record, 0, &head);
-    put_row(record, ADDRESSES, &addresses);
-    put_row(record, HALVES, &halves);
+    put_row(record, 0, &head_of(registers));
+    put_row(record, ADDRESSES, &addresses_of(registers));
+    put_row(record, HALVES, &halves_of(registers, since));
 }
 
 // A state's record.
@@ -58,12 +55,8 @@ pub fn write(record: &mut [u8], flash: Flash)
     requires { length «record».old ≡ record_length }
     ensures { «record».new ≡ encoded flash }
 {
-    let registers = flash.registers;
-    let latch = registers.latch;
-    let sensed = flash.sensed;
-    let indices = flash.indices;
-    put_scalars(record, registers, flash.pulse_since);
-    put_row(record, LATCH, &latch);
-    put_row(record, SENSED, &sensed);
-    put_row(record, INDICES, &indices);
+    put_scalars(record, flash.registers, flash.pulse_since);
+    put_row(record, LATCH, &flash.registers.latch);
+    put_row(record, SENSED, &flash.sensed);
+    put_row(record, INDICES, &flash.indices);
 }

@@ -1,6 +1,6 @@
 // The state as rows of numbers, and back.
 ghost use Rattle.std.specs.Prelude.{◌≡◌};
-ghost use Rattle.layout.specs.Layout.{flag_byte, supply_of, mode_of, option_byte, pending_address, pending_instant, pending_of, head_of, addresses_of, halves_of, registers_of};
+ghost use Rattle.layout.specs.Layout.{supply_of, mode_of, head_of, addresses_of, halves_of, registers_of};
 
 use cell::PAGE;
 use control::supplies::{mode_number, supply_number};
@@ -8,12 +8,7 @@ use control::{Mode, PendingSense, Supply};
 use registers::Registers;
 use time::Time;
 
-pub fn flag_byte(flag: bool) -> u8
-    ensures { result ≡ flag_byte flag }
-{
-    if flag { 1 } else { 0 }
-}
-
+#[tactic(auto, unfolding(layout::specs::Layout::supply_of))]
 pub fn supply_of(b: u8) -> Supply
     ensures { result ≡ supply_of b }
 {
@@ -24,6 +19,7 @@ pub fn supply_of(b: u8) -> Supply
     }
 }
 
+#[tactic(auto, unfolding(layout::specs::Layout::mode_of))]
 pub fn mode_of(b: u8) -> Mode
     ensures { result ≡ mode_of b }
 {
@@ -37,80 +33,38 @@ pub fn mode_of(b: u8) -> Mode
     }
 }
 
-fn option_byte(pending: Option<PendingSense>) -> u8
-    ensures { result ≡ option_byte pending }
-{
-    match pending {
-        None => 0,
-        Some(_) => 1,
-    }
-}
-
-fn pending_address(pending: Option<PendingSense>) -> u16
-    ensures { result ≡ pending_address pending }
-{
-    match pending {
-        None => 0,
-        Some(sense) => sense.address,
-    }
-}
-
-fn pending_instant(pending: Option<PendingSense>) -> Time
-    ensures { result ≡ pending_instant pending }
-{
-    match pending {
-        None => Time(0, 0),
-        Some(sense) => sense.at,
-    }
-}
-
-fn pending_of(option: u8, address: u16, instant: Time) -> Option<PendingSense>
-    ensures { result ≡ pending_of option address instant }
-{
-    if option == 1 {
-        Some(PendingSense {
-            address,
-            at: instant,
-        })
-    } else {
-        None
-    }
-}
-
 // The single bytes.
+#[tactic(auto, unfolding(layout::specs::Layout::head_of))]
 pub fn head_of(r: Registers) -> [u8; 10]
     ensures { result ≡ head_of r }
 {
-    let supply = r.supply;
-    let mode = r.mode;
-    let pending = r.verify_pending;
     [
         r.control,
-        flag_byte(r.error),
+        u8::from(r.error),
         r.erase,
-        flag_byte(r.enabled),
-        flag_byte(r.power_down_disabled),
-        supply_number(supply),
-        flag_byte(r.oscillator),
-        mode_number(mode),
-        flag_byte(r.module),
-        option_byte(pending),
+        u8::from(r.enabled),
+        u8::from(r.power_down_disabled),
+        supply_number(r.supply),
+        u8::from(r.oscillator),
+        mode_number(r.mode),
+        u8::from(r.module),
+        u8::from(r.verify_pending.is_some()),
     ]
 }
 
+#[tactic(auto, unfolding(layout::specs::Layout::addresses_of))]
 pub fn addresses_of(r: Registers) -> [u16; 2]
     ensures { result ≡ addresses_of r }
 {
-    let pending = r.verify_pending;
-    [r.page, pending_address(pending)]
+    [r.page, r.verify_pending.map_or(0, |due| due.address)]
 }
 
 // The halves of the instants, whole seconds first.
+#[tactic(auto, unfolding(layout::specs::Layout::halves_of))]
 pub fn halves_of(r: Registers, since: Time) -> [u64; 16]
     ensures { result ≡ halves_of r since }
 {
-    let pending = r.verify_pending;
-    let instant = pending_instant(pending);
+    let instant = r.verify_pending.map_or(Time(0, 0), |due| due.at);
     [
         r.ready.0,
         r.ready.1,
@@ -131,6 +85,7 @@ pub fn halves_of(r: Registers, since: Time) -> [u64; 16]
     ]
 }
 
+#[tactic(auto, unfolding(layout::specs::Layout::registers_of))]
 pub fn registers_of(
     head: [u8; 10],
     addresses: [u16; 2],
@@ -139,9 +94,10 @@ pub fn registers_of(
 ) -> Registers
     ensures { result ≡ registers_of head addresses halves latch }
 {
-    let supply = supply_of(head[5]);
-    let mode = mode_of(head[7]);
-    let pending = pending_of(head[9], addresses[1], Time(halves[14], halves[15]));
+    let pending = PendingSense {
+        address: addresses[1],
+        at: Time(halves[14], halves[15]),
+    };
     Registers {
         control: head[0],
         error: head[1] == 1,
@@ -150,9 +106,9 @@ pub fn registers_of(
         power_down_disabled: head[4] == 1,
         latch: latch,
         page: addresses[0],
-        supply: supply,
+        supply: supply_of(head[5]),
         oscillator: head[6] == 1,
-        mode: mode,
+        mode: mode_of(head[7]),
         module: head[8] == 1,
         ready: Time(halves[0], halves[1]),
         swe_ready: Time(halves[2], halves[3]),
@@ -160,6 +116,6 @@ pub fn registers_of(
         erase_ready: Time(halves[6], halves[7]),
         recovery: Time(halves[8], halves[9]),
         verify_ready: Time(halves[10], halves[11]),
-        verify_pending: pending,
+        verify_pending: (head[9] == 1).then_some(pending),
     }
 }

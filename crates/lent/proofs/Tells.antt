@@ -24,10 +24,10 @@ use Rattle.flash.specs.Chip.{placed, answer_limit, Performed}
 use Rattle.layout.specs.Layout.{encoded, decoded}
 use Rattle.lent.specs.declared.Request.{Request}
 use Rattle.lent.specs.declared.Request.TheVariants.{WriteRegister, Write8, Read8, Read16, Protect, Reset, PowerOff, Environment}
+use Rattle.registers.specs.declared.Pulse.{Pulse}
 use Rattle.lent.proofs.Lines.{given-first, given-after}
 use Rattle.lent.specs.Looked.{memory_checks, memory_refusal}
 use Rattle.lent.specs.Memory.{Memory, chip_in, last_second, too_early, too_few_words}
-use Rattle.registers.specs.declared.Pulse.{Pulse}
 use Rattle.lent.specs.Asked.{call_of, misplaced, call_checks, call_refusal, refusal, outcome, outcome_by, Told}
 
 -- no answer is a byte

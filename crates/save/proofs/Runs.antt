@@ -1,7 +1,9 @@
--- The runs of fields of a snapshot's state as rows of numbers: what the format writes of a run is what `put_bytes`, `put16` and `put_halves`
--- write of its numbers. Each by unfolding the format; an instant's 128 bits are its two halves, the low one first.
+-- The runs of fields of a snapshot's state as rows of numbers: what the format writes of a run is what `put_row` and
+-- `put` write of its numbers. Each by unfolding the format; an instant's 128 bits are its two halves, the low one first.
 -- Assumes nothing.
 use mathlib.Core.Path.{◌≡◌, refl, sym, ◌∙◌}
+use mathlib.Core.Bool.{Bool, true, false}
+use Rattle.std.specs.Int.{from_bool}
 use mathlib.Core.List.{List, [], ◌∷◌, ◌++◌, append_assoc, append-nil}
 use Prim.Native.Nat.{ℕ, ◌+◌, ◌*◌, ◌^◌, ◌<◌}
 use native.Mathlib.Omega.{arith}
@@ -27,6 +29,11 @@ write_all-bytes w [] = refl
 write_all-bytes w (v ∷ vs) = rw (write_all-bytes w vs)
 
 -- ---- single bytes
+
+-- a flag as the library makes it a byte
+pub flag-from : (b : Bool) → from_bool b ≡ flag_byte b
+flag-from true = refl
+flag-from false = refl
 
 pub controls-row : (v : Controls)
     → controls.write v ≡ row_bytes 1 (v.0 ∷ flag_byte v.1.0 ∷ v.1.1.0 ∷ flag_byte v.1.1.1.0 ∷ flag_byte v.1.1.1.1 ∷ [])

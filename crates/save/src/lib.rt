@@ -13,7 +13,6 @@ ghost use Rattle.snapshot.specs.Asked.{write_refusal, written_out};
 ghost use Rattle.snapshot.specs.Places.{pages_place, page_at};
 
 use cell::{PAGE, PAGE_CELLS, PAGES};
-use coding::state::flag_byte;
 use control::PendingSense;
 use control::supplies::{mode_number, supply_number};
 use flash::Flash;
@@ -61,10 +60,10 @@ fn put_controls(out: &mut [u8], at: usize, flash: Flash)
     let r = flash.registers;
     let run = [
         r.control,
-        flag_byte(r.error),
+        u8::from(r.error),
         r.erase,
-        flag_byte(r.enabled),
-        flag_byte(r.power_down_disabled),
+        u8::from(r.enabled),
+        u8::from(r.power_down_disabled),
     ];
     put_row(out, at, &run);
 }
@@ -74,8 +73,7 @@ fn put_latched(out: &mut [u8], at: usize, flash: Flash)
     ensures { take (at + 130) out.new ≡ take at out.old ++ latched.write (state_fields flash).1.0 }
 {
     let r = flash.registers;
-    let latch = r.latch;
-    put_row(out, at, &latch);
+    put_row(out, at, &r.latch);
     r.page.put(out, at + PAGE);
 }
 
@@ -84,13 +82,11 @@ fn put_supplies(out: &mut [u8], at: usize, flash: Flash)
     ensures { take (at + 4) out.new ≡ take at out.old ++ supplies.write (state_fields flash).1.1.0 }
 {
     let r = flash.registers;
-    let supply = r.supply;
-    let mode = r.mode;
     let run = [
-        supply_number(supply),
-        flag_byte(r.oscillator),
-        mode_number(mode),
-        flag_byte(r.module),
+        supply_number(r.supply),
+        u8::from(r.oscillator),
+        mode_number(r.mode),
+        u8::from(r.module),
     ];
     put_row(out, at, &run);
 }
@@ -134,8 +130,7 @@ fn put_pending(out: &mut [u8], at: usize, sense: Option<PendingSense>) -> usize
         Some(due) => {
             out[at] = 1;
             due.address.put(out, at + 1);
-            let halves = [due.at.1, due.at.0];
-            put_row(out, at + 3, &halves);
+            put_row(out, at + 3, &[due.at.1, due.at.0]);
             at + 19
         }
     }
@@ -149,11 +144,8 @@ fn put_state(out: &mut [u8], at: usize, flash: Flash)
     put_latched(out, at + 5, flash);
     put_supplies(out, at + 135, flash);
     put_instants(out, at + 139, flash);
-    let r = flash.registers;
-    let pending = r.verify_pending;
-    let end = put_pending(out, at + 251, pending);
-    let sensed = flash.sensed;
-    put_row(out, end, &sensed);
+    let end = put_pending(out, at + 251, flash.registers.verify_pending);
+    put_row(out, end, &flash.sensed);
 }
 
 // How long a snapshot is.
@@ -173,11 +165,10 @@ fn fill(out: &mut [u8], flash: Flash, array: &[u8], charges: &[u64], count: usiz
     requires { (length array.now ≡ array_bytes) × (length charges.now ≡ array_cells) × (length flash.indices ≡ pages) × (slots_sound flash.indices ≡ true) × (count ≡ opened flash.indices) × (length out.old ≡ snapshot_length count flash.registers.verify_pending) }
     ensures { out.new ≡ snapshot_of (record { flash = flash; array = array.now; charges = charges.now }) }
 {
-    let indices = flash.indices;
     put_row(out, 0, array);
     let number = count as u32;
     number.put(out, COUNT);
-    put_pages(out, &indices, charges, count);
+    put_pages(out, &flash.indices, charges, count);
     put_state(out, page_at(count), flash);
 }
 
@@ -192,11 +183,8 @@ pub fn write_snapshot(
     ensures out { out.new ≡ written_out (told result) (record { bytes = «record».now; array = array.now; charges = charges.now }) out.old }
 {
     let flash = opening::opened(record, array, charges)?;
-    let indices = flash.indices;
-    let r = flash.registers;
-    let pending = r.verify_pending;
-    let count = opened(&indices);
-    let length = snapshot_length(count, pending);
+    let count = opened(&flash.indices);
+    let length = snapshot_length(count, flash.registers.verify_pending);
     if out.len() < length {
         return Err(Refusal::Output);
     }

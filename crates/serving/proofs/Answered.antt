@@ -6,13 +6,14 @@ use mathlib.Core.List.{List, []}
 use Prim.Native.Nat.{ℕ, ◌-◌, ◌*◌, ◌≤◌, ◌<◌}
 use native.Mathlib.Omega.{arith}
 use lib.ListN.{length}
+use Rattle.refusal.specs.Refusal.{told}
 use Rattle.lent.specs.Memory.{Memory}
-use Rattle.lent.specs.Asked.{Outcome}
+use Rattle.lent.specs.Asked.{Outcome, value_of, count_of}
 use Rattle.listing.specs.Replaying.{idle, end_in, asks, last_of, Replays}
 use Rattle.listing.proofs.Claimed.{replay3}
 use Rattle.listing.proofs.Going.{told_is}
 use Rattle.history.proofs.Kept.{end_is}
-use Rattle.replay.specs.declared.Replayed.{Replayed}
+use Rattle.listing.specs.declared.Replayed.{Replayed}
 use Rattle.course.specs.declared.Course.{Course}
 use Rattle.course.specs.declared.Manner.{Manner}
 use Rattle.course.specs.Desk.{desk, called_all, numbered_from}
@@ -22,8 +23,8 @@ use Rattle.serving.specs.Serving.{came_to, Notes, Serves}
 use Rattle.serving.proofs.Quiet.{noted-once}
 
 module _ (from to : ℕ) (calls lent : List ℕ) (m : Memory) (more : from < to) (long : 3 * to ≤ length calls)
-    {answer : Replayed} {bytes array charges events : List ℕ}
-    (r : Replays from (asks from to calls lent m) lent m answer.done answer.number answer.value answer.count bytes array charges events) where
+    (answer : Replayed) {bytes array charges events : List ℕ}
+    (r : Replays from (asks from to calls lent m) lent m answer.done (told answer.last) (value_of answer.last) (count_of answer.last) bytes array charges events) where
   -- at least one call is done, and none past the end
   pub done-some : (from < answer.done) × (answer.done ≤ to)
   done-some =

@@ -1,16 +1,16 @@
 // Calls that wait are run, and what they came to is noted: counted, said or complained of.
 #![tactic(auto)]
 
-ghost use Rattle.std.specs.Prelude.{◌≡◌, false, ◌-◌, ◌*◌, ◌+◌, ◌≤◌, ◌<◌, length};
+ghost use Rattle.std.specs.Prelude.{◌≡◌, false, ◌-◌, ◌*◌, ◌+◌, ◌≤◌, ◌<◌, Ok, length};
 ghost use Rattle.course.specs.Desk.{desk, made, noted};
 ghost use Rattle.serving.specs.Noting.{asking_at, passed, noted_at_once};
 ghost use Rattle.serving.specs.Serving.{Notes, Serves};
 
 use course::memory::NUMBERS;
 use course::{Complaint, Course, Manner, after_refusal, with_calls};
-use lent::Request;
-use listing::request_in;
-use replay::{Replayed, replay};
+use lent::{Answer, Request};
+use listing::{Replayed, request_in};
+use replay::replay;
 use time::Time;
 use verdict::pulses::tallied;
 use voices::call_said;
@@ -57,7 +57,7 @@ fn passed(course: Course, calls: &[u64], from: usize, to: usize) -> Course
     )
 }
 
-// A call was made.
+// A call was made, and `next` is the first that is not done.
 fn made(
     course: Course,
     manner: Manner,
@@ -65,10 +65,11 @@ fn made(
     request: Request,
     time: Time,
     events: &[u64],
-    answer: Replayed,
+    next: usize,
+    answer: Answer,
     out: &mut [u8],
 ) -> Served
-    ensures { Notes (made manner line (record { request = request; time = time })) course answer events.now out.old out.new result }
+    ensures { Notes (made manner line (record { request = request; time = time })) course (record { done = next; last = Ok answer }) events.now out.old out.new result }
 {
     let counted = tallied(course.tally, events, answer.count);
     let end = call_said(
@@ -83,7 +84,7 @@ fn made(
     );
     Served {
         course: with_calls(course, 1, time, counted),
-        next: answer.done,
+        next,
         complaint: None,
         end,
     }
@@ -102,14 +103,17 @@ fn noted(
 ) -> Served
     ensures { Notes (noted manner line (record { request = request; time = time })) course answer events.now out.old out.new result }
 {
-    if answer.number == 0 {
-        return made(course, manner, line, request, time, events, answer, out);
-    }
-    Served {
-        course: after_refusal(course, manner.go_on),
-        next: answer.done,
-        complaint: Some(Complaint::Refused(line, answer.number)),
-        end: 0,
+    let next = answer.done;
+    match answer.last {
+        Ok(answer) => made(
+            course, manner, line, request, time, events, next, answer, out,
+        ),
+        Err(refusal) => Served {
+            course: after_refusal(course, manner.go_on),
+            next,
+            complaint: Some(Complaint::Refused(line, u32::from(refusal))),
+            end: 0,
+        },
     }
 }
 

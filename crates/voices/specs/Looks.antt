@@ -1,12 +1,15 @@
--- What a function shows of a look at memory: the refusal's number, and what is seen put at the start of a slice, or nothing on a refusal.
+-- What a function shows of a look at memory: what is seen is put at the start of a slice, up to the place that is given back, or nothing on
+-- a refusal.
 -- Assumes nothing.
-use Rattle.std.specs.Prelude.{ℕ, ◌≡◌, cond, List, [], eqb}
+use Rattle.std.specs.Prelude.{ℕ, ◌≡◌, List, Result, Ok, Err}
+use Rattle.refusal.specs.declared.Refusal.{Refusal}
+use Rattle.refusal.specs.Refusal.{number}
 use Rattle.time.specs.declared.Time.{Time}
 use Rattle.lent.specs.Memory.{Memory}
 use Rattle.grammar.specs.declared.Looking.{Looking}
 use Rattle.text.specs.Puts.{Puts}
 use Rattle.course.specs.Desk.{looked_refusal, looked_said}
 
-pub record Looks (line : ℕ) (l : Looking) (t : Time) (m : Memory) (number : ℕ) (out left : List ℕ) (end : ℕ) : Type 0 where
-  pub number_is : number ≡ looked_refusal l t m
-  pub said_is : Puts (cond (eqb number 0) (looked_said line l t m) []) 0 out left end
+abbrev pub Looks : ℕ → Looking → Time → Memory → Result ℕ Refusal → List ℕ → List ℕ → Type 0
+Looks line l t m (Ok end) out left = (looked_refusal l t m ≡ 0) × Puts (looked_said line l t m) 0 out left end
+Looks line l t m (Err r) out left = (number r ≡ looked_refusal l t m) × (left ≡ out)

@@ -92,18 +92,16 @@ pub fn look(
 ) -> Seeing
     ensures { (events : List ℕ) → Leaves (looked manner line looking time (looked_refusal looking time (record { bytes = «record».now; array = array.now; charges = charges.now })) (desk course (record { bytes = «record».now; array = array.now; charges = charges.now }) events)) result.course (record { bytes = «record».now; array = array.now; charges = charges.now }) events result.complaint out.old out.new result.end }
 {
-    let sight = look_at(record, array, charges, line, time, looking, out);
-    if sight.number != 0 {
-        let after = after_left_out(course, manner.go_on);
-        return Seeing {
-            course: after,
-            complaint: Some(Complaint::Unseen(line, sight.number)),
-            end: sight.end,
-        };
-    }
-    Seeing {
-        course,
-        complaint: None,
-        end: sight.end,
+    match look_at(record, array, charges, line, time, looking, out) {
+        Ok(end) => Seeing {
+            course,
+            complaint: None,
+            end,
+        },
+        Err(refusal) => Seeing {
+            course: after_left_out(course, manner.go_on),
+            complaint: Some(Complaint::Unseen(line, u32::from(refusal))),
+            end: 0,
+        },
     }
 }

@@ -13,6 +13,6 @@ returns c =
     let r = x.registers in
     let m = c.put_row.new.to in
     let n = c.put_row-2.new.to in
-    let e = row-after 1 0 10 10 x.«record».now m _ (head_of r) [] c.head_of-head.ensures refl refl c.put_row.ensures refl in
-    let f = row-after 2 10 2 14 m n _ (addresses_of r) (row_bytes 1 (head_of r)) c.addresses_of-addresses.ensures refl refl c.put_row-2.ensures e in
-    row-after 8 14 16 142 n _ _ (halves_of r x.since) (row_bytes 1 (head_of r) ++ row_bytes 2 (addresses_of r)) c.halves_of-halves.ensures refl refl c.put_row-3.ensures f
+    let e = row-after 1 0 10 10 x.«record».now m _ (head_of r) [] c.head_of.ensures refl refl c.put_row.ensures refl in
+    let f = row-after 2 10 2 14 m n _ (addresses_of r) (row_bytes 1 (head_of r)) c.addresses_of.ensures refl refl c.put_row-2.ensures e in
+    row-after 8 14 16 142 n _ _ (halves_of r x.since) (row_bytes 1 (head_of r) ++ row_bytes 2 (addresses_of r)) c.halves_of.ensures refl refl c.put_row-3.ensures f

@@ -4,12 +4,10 @@ use mathlib.Core.Path.{refl}
 use Rattle.voices.proofs.Sights.{left-seen, left-refused}
 use Rattle.voices.proofs.look.Goals as goal
 
-pub returns-then-sight-ne0 : goal.returns-then-sight-ne0
-returns-then-sight-ne0 c =
-    let a = c.args in
-    left-refused a.manner _ _ _ _ a.course _ c.look_at-sight.ensures c.if-sight-ne0.true c.after_left_out-after.ensures
+pub returns-in-Ok : goal.returns-in-Ok
+returns-in-Ok c = let a = c.args in left-seen a.manner _ _ _ _ _ _ _ _ c.in-Ok.ensures refl
 
-pub returns : goal.returns
-returns c =
+pub returns-in-Err : goal.returns-in-Err
+returns-in-Err c =
     let a = c.args in
-    left-seen a.manner _ _ _ _ _ _ c.look_at-sight.ensures c.if-sight-ne0.false refl
+    rw c.from.ensures (left-refused a.manner _ _ _ _ a.course _ _ _ c.in-Err.refusal c.in-Err.ensures c.after_left_out.ensures)
