@@ -19,6 +19,7 @@ pub const PAGE_BYTES: u16 = PAGE as u16;
 const END: u16 = FLASH_SIZE as u16;
 
 // Each flag, supply, mode and option byte is one.
+#[tactic(auto, unfolding(layout::specs::Layout::head_known))]
 fn head_known(head: [u8; 10]) -> bool
     ensures { result ≡ head_known head }
 {
@@ -74,6 +75,7 @@ pub fn in_range(record: &[u8; RECORD_LEN]) -> bool
 }
 
 // Whether a record is one that a state is written as, and that is allowed: if not, it is refused by 3.
+#[tactic(auto, unfolding(layout::specs::Layout::accepted))]
 pub fn accepts(record: &[u8; RECORD_LEN]) -> bool
     ensures { result ≡ accepted «record».now }
 {
