@@ -3,12 +3,12 @@
 
 pub mod slots;
 
-ghost use Rattle.std.specs.Prelude.{◌≡◌, ◌≤◌, length};
-ghost use Rattle.layout.specs.Layout.{record_length, head_known, nothing_clear, placed, legible, in_range, accepted, rows_in};
+ghost use Rattle.std.specs.Prelude.{◌≡◌, ◌≤◌};
+ghost use Rattle.layout.specs.Layout.{head_known, nothing_clear, placed, legible, in_range, accepted, rows_in};
 
 use crate::slots::slots_sound;
 use cell::{FLASH_SIZE, PAGE, PAGES};
-use layout::{ADDRESSES, INDICES, PENDING_INSTANT};
+use layout::{ADDRESSES, INDICES, PENDING_INSTANT, RECORD_LEN};
 use rows::get_row;
 use rows::numbers::Number;
 use time::Time;
@@ -19,6 +19,7 @@ pub const PAGE_BYTES: u16 = PAGE as u16;
 const END: u16 = FLASH_SIZE as u16;
 
 // Each flag, supply, mode and option byte is one.
+#[tactic(auto, unfolding(layout::specs::Layout::head_known))]
 fn head_known(head: [u8; 10]) -> bool
     ensures { result ≡ head_known head }
 {
@@ -48,8 +49,7 @@ pub fn placed(address: u16, step: u16) -> bool
 }
 
 // What `validate` does not test itself.
-pub fn legible(record: &[u8]) -> bool
-    requires { length «record».now ≡ record_length }
+pub fn legible(record: &[u8; RECORD_LEN]) -> bool
     ensures { result ≡ legible (rows_in «record».now) }
 {
     let mut head = [0u8; 10];
@@ -66,8 +66,7 @@ pub fn legible(record: &[u8]) -> bool
 }
 
 // What it does: control, page and pending address.
-pub fn in_range(record: &[u8]) -> bool
-    requires { length «record».now ≡ record_length }
+pub fn in_range(record: &[u8; RECORD_LEN]) -> bool
     ensures { result ≡ in_range (rows_in «record».now) }
 {
     let page = u16::get(record, ADDRESSES);
@@ -76,8 +75,8 @@ pub fn in_range(record: &[u8]) -> bool
 }
 
 // Whether a record is one that a state is written as, and that is allowed: if not, it is refused by 3.
-pub fn accepts(record: &[u8]) -> bool
-    requires { length «record».now ≡ record_length }
+#[tactic(auto, unfolding(layout::specs::Layout::accepted))]
+pub fn accepts(record: &[u8; RECORD_LEN]) -> bool
     ensures { result ≡ accepted «record».now }
 {
     legible(record) & in_range(record)

@@ -9,14 +9,13 @@ ghost use Rattle.layout.specs.Layout.{record_length, encoded, decoded, head_of, 
 use crate::state::{addresses_of, halves_of, head_of, registers_of};
 use cell::{PAGE, PAGES};
 use flash::Flash;
-use layout::{ADDRESSES, HALVES, INDICES, LATCH, SENSED};
+use layout::{ADDRESSES, HALVES, INDICES, LATCH, RECORD_LEN, SENSED};
 use registers::Registers;
 use rows::{get_row, put_row};
 use time::Time;
 
 // The state that a record holds.
-pub fn read(record: &[u8]) -> Flash
-    requires { length «record».now ≡ record_length }
+pub fn read(record: &[u8; RECORD_LEN]) -> Flash
     ensures { result ≡ decoded «record».now }
 {
     let mut head = [0u8; 10];

@@ -18,9 +18,9 @@ use time::Time;
 pub fn opened_record(record: &[u8]) -> Result<Flash, Refusal>
     ensures { Answers (register_refusal «record».now) (decoded «record».now) result }
 {
-    if record.len() != RECORD_LEN {
+    let Ok(record) = <&[u8; RECORD_LEN]>::try_from(record) else {
         return Err(Refusal::Memory);
-    }
+    };
     if !accepts(record) {
         return Err(Refusal::Record);
     }

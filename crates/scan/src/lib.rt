@@ -58,6 +58,7 @@ fn check_cells(bytes: &[u8], at: usize, count: usize) -> Result<(), Refusal>
 }
 
 // The address of a charge page: a field that is refused if it is misaligned, past the end or in the index already.
+#[tactic(auto, unfolding(snapshot::specs::Places::address_number))]
 fn check_address(bytes: &[u8], at: usize, indices: &[u16]) -> Result<(), Refusal>
     requires { (at < 2 ^ 32) × (length indices.now ≡ pages) }
     ensures { told result ≡ address_number indices.now bytes.now at }
@@ -76,6 +77,7 @@ fn check_address(bytes: &[u8], at: usize, indices: &[u16]) -> Result<(), Refusal
 }
 
 // A page is entered in the index with its slot.
+#[tactic(auto, unfolding(snapshot::specs::Places::with_page))]
 fn enter_page(indices: &mut [u16], slot: usize, bytes: &[u8], at: usize)
     requires { (length indices.old ≡ pages) × (slot < pages) × (at + 2 ≤ length bytes.now) × (word 2 bytes.now at / 128 < pages) }
     ensures { indices.new ≡ with_page indices.old slot bytes.now at }
@@ -136,6 +138,7 @@ fn check_end(bytes: &[u8], end: usize) -> Result<(), Refusal>
 }
 
 // The bytes of the state that stands at a place: 18 more with a pending sense.
+#[tactic(auto, unfolding(snapshot::specs::Places::state_length))]
 pub fn state_length(bytes: &[u8], at: usize) -> usize
     requires { at + 252 ≤ length bytes.now }
     ensures { result ≡ state_length bytes.now at }

@@ -2,10 +2,8 @@
 use crate::reading::{open, read_full};
 use crate::saying::{say_image_length, say_no_snapshot, say_not_opened};
 use cell::FLASH_SIZE;
-use checks::accepts;
-use coding::read;
-use layout::RECORD_LEN;
 use lent::making::make;
+use lent::opening::opened_record;
 use restore::read_snapshot;
 use slices::first;
 use std::rt::Files;
@@ -14,7 +12,7 @@ use time::Time;
 // Every byte FF.
 fn begin_empty(record: &mut [u8], array: &mut [u8], charges: &[u64]) -> bool {
     let image = [0xFFu8; FLASH_SIZE];
-    make(&image, record, array, charges.len()) == 0
+    make(&image, record, array, charges.len()).is_ok()
 }
 
 // A file in the buffer: how many bytes, or why not.
@@ -51,7 +49,7 @@ fn begin_from_image<R: Files, S: Print>(
                 say_image_length(says, path, n as u64);
                 return false;
             }
-            make(first(buffer, n), record, array, charges.len()) == 0
+            make(first(buffer, n), record, array, charges.len()).is_ok()
         }
     }
 }
@@ -103,11 +101,5 @@ pub fn begin<R: Files, S: Print>(
 
 // The last settling of what the history begins with: the verdict's time where no call is made.
 pub fn last_settling(record: &[u8]) -> Time {
-    if record.len() == RECORD_LEN {
-        if accepts(record) {
-            let flash = read(record);
-            return flash.pulse_since;
-        }
-    }
-    Time(0, 0)
+    opened_record(record).map_or(Time(0, 0), |flash| flash.pulse_since)
 }

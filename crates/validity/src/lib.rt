@@ -19,33 +19,30 @@ use time::Time;
 fn pending_placed(pending: Option<PendingSense>) -> bool
     ensures { result ≡ pending_placed pending }
 {
-    match pending {
-        None => true,
-        Some(sense) => placed(sense.address, 4),
-    }
+    pending.is_none_or(|sense| placed(sense.address, 4))
 }
 
 // Control and erase have no bit that is none, page and pending address are aligned and inside, the last settling is not past the time.
+#[tactic(auto, unfolding(snapshot::specs::Asked::valid))]
 pub fn valid(time: Time, flash: Flash) -> bool
     ensures { result ≡ valid time flash }
 {
     let registers = flash.registers;
-    let pending = registers.verify_pending;
-    let since = flash.pulse_since;
     (registers.control < 128)
         & (registers.erase < 64)
         & placed(registers.page, PAGE_BYTES)
-        & pending_placed(pending)
-        & time.reached(since)
+        & pending_placed(registers.verify_pending)
+        & time.reached(flash.pulse_since)
 }
 
 // Whether a record's state is valid at a time: what this tests is not refused by 3, nor a time before the last settling by 6.
+#[tactic(auto, unfolding(snapshot::specs::Asked::valid_refusal))]
 pub fn see_valid(record: &[u8], time: Time) -> Result<bool, Refusal>
     ensures { Answers (valid_refusal «record».now time) (valid time (decoded «record».now)) result }
 {
-    if record.len() != RECORD_LEN {
+    let Ok(record) = <&[u8; RECORD_LEN]>::try_from(record) else {
         return Err(Refusal::Memory);
-    }
+    };
     if !legible(record) {
         return Err(Refusal::Record);
     }
