@@ -2,10 +2,10 @@
 -- Assumes nothing.
 use Rattle.sayings.proofs.times.put_fraction.Goals as goal
 
-pub returns-in-Micros : goal.returns-in-Micros
-returns-in-Micros c =
-    rw (← c.micros_of.ensures, c.in-Micros.is) c.say.ensures
+pub returns-in-Some : goal.returns-in-Some
+returns-in-Some c =
+    rw (← c.micros_of.ensures, c.in-Some.is) c.say.ensures
 
-pub returns-in-Raw : goal.returns-in-Raw
-returns-in-Raw c =
-    rw (← c.micros_of.ensures, c.in-Raw.is, ← c.microsecond_in.ensures) c.say-in-Raw.ensures
+pub returns-in-None : goal.returns-in-None
+returns-in-None c =
+    rw (← c.micros_of.ensures, c.in-None.is, ← c.microsecond_in.ensures) c.say-in-None.ensures
