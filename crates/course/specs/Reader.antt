@@ -1,8 +1,7 @@
 -- What the bytes of a history do: they make up lines, and each line's end has it done. docs/HISTORY-FORMAT.md. Assumes nothing.
-use Rattle.std.specs.Prelude.{ℕ, ◌-◌, Bool, false, cond, not, ◌||◌, List, [], ◌∷◌, ◌++◌, eqb, ltb, length, take}
+use Rattle.time.specs.declared.Time.{Time}
+use Rattle.std.specs.Prelude.{ℕ, ◌-◌, Bool, false, cond, not, ◌||◌, List, [], ◌∷◌, ◌++◌, Option, None, eqb, ltb, length, take}
 use Rattle.reason.specs.declared.Reason.TheVariants.{TooLong}
-use Rattle.moments.specs.declared.Before.{Before}
-use Rattle.moments.specs.declared.Before.TheVariants as before
 use Rattle.fields.specs.declared.Fault.{Fault}
 use Rattle.grammar.specs.declared.Line.{Line}
 use Rattle.grammar.specs.declared.Line.TheVariants.{Wrong}
@@ -17,7 +16,7 @@ use Rattle.course.specs.Desk.{Desk, after_saying, line_done, called_all, numbere
 -- The desk, the time that a `+` counts from, how many lines are done, the line so far, and whether it is too long.
 pub record Reader : Type 0 where
   pub desk : Desk
-  pub before : Before
+  pub before : Option Time
   pub lines : ℕ
   pub line : List ℕ
   pub long : Bool
@@ -28,7 +27,7 @@ read_after text cs r = record { desk = after_saying text cs r.desk; before = r.b
 
 -- a text's first byte, with some desk: there is no time that a `+` could count from
 abbrev pub starts_with : Desk → Reader
-starts_with d = record { desk = d; before = before.Nothing; lines = 0; line = []; long = false }
+starts_with d = record { desk = d; before = None; lines = 0; line = []; long = false }
 
 -- the longest line
 abbrev pub longest : ℕ

@@ -7,7 +7,6 @@ ghost use Rattle.course.specs.Course.{with_calls, after_refusal, after_left_out,
 
 use fields::Fault;
 use grammar::Line;
-use moments::Before;
 use time::Time;
 use verdict::Tally;
 use verdict::blocks::BLOCKS;
@@ -44,7 +43,7 @@ pub enum Complaint {
 #[derive(Clone, Copy)]
 pub struct Place {
     // The time that a `+` counts from, and how many lines were read.
-    pub before: Before,
+    pub before: Option<Time>,
     pub lines: u64,
     // The bytes of a line that is not yet read whole, and whether it is too long.
     pub length: usize,

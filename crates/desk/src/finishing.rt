@@ -1,7 +1,6 @@
 // The end of a run: the files that were asked for, the report, and last the verdict.
 use crate::word_in;
 use course::Course;
-use moments::Before;
 use options::Options;
 use std::rt::Files;
 use summary::{Counts, Judged, report};
@@ -11,14 +10,6 @@ use time::Time;
 
 // No report is longer than 9,214 bytes (crates/summary/proofs/Fits.antt), of which 7,296 are a line for each legible page.
 const REPORT: usize = 16384;
-
-// The time of the verdict: the one that was asked for, or that of the last call made.
-fn time_of(at: Before, last: Time) -> Time {
-    match at {
-        Before::Nothing => last,
-        Before::At(time) => time,
-    }
-}
 
 // Whether all files that were asked for are drafted. If not, none is.
 fn files_drafted<R: Files, S: Print>(
@@ -97,7 +88,8 @@ pub fn finish<R: Files + Print, S: Print>(
     buffer: &mut [u8],
 ) {
     let at = options.at;
-    let time = time_of(at, course.last);
+    // The time that was asked for, or that of the last call made.
+    let time = at.unwrap_or(course.last);
     let judged = Judged {
         first: options.first,
         pages: options.pages,

@@ -3,13 +3,17 @@
 use Prim.Native.Nat.{ℕ, suc, ◌+◌, ◌-◌, ◌≤◌, ◌<◌}
 use mathlib.Core.Bool.{true, false, ◌||◌}
 use mathlib.Core.List.{List, ◌++◌}
-use mathlib.Core.Path.{◌≡◌, refl, sym, ap, ◌∙◌}
+use mathlib.Core.Path.{◌≡◌, refl, sym, ap, subst, ◌∙◌}
 use native.Mathlib.Omega.{arith}
 use borrow.Author.Tests.{lt-ltb, le-ltb}
-use lib.Dec.{ltb}
+use lib.Dec.{eqb, ltb}
 use lib.ListN.{length, take, drop, length-append, length-take, length-drop}
-use lib.Seq.{sets-eq, take_at, take-length, length-take-le}
-use Rattle.byte_search.specs.Search.{index_of, slice}
+use lib.Seq.{sets-eq, take_at, length-take-le}
+use Rattle.byte_search.specs.Search.{index_of}
+use Rattle.byte_search.proofs.Found.{here, nowhere}
+use Rattle.std.specs.Prelude.{Some, None}
+use Rattle.std.specs.List.{position}
+use Rattle.std.proofs.lemmas.List.{take_all}
 use Rattle.text.specs.Puts.{fitting, Puts}
 use Rattle.course.specs.declared.Manner.{Manner}
 use Rattle.course.specs.declared.Place.{Place}
@@ -27,7 +31,7 @@ puts_first {text} {out} {left} {at} {end} put h =
     rw (put.left_is, sets-eq fits out at most) (take_at (take at out ++ fits) (drop (at + length fits) out) end long)
 
 -- What was fed, where the line's bytes end at `end` in the piece and at `after` in its slice.
-module _ (p : Place) (piece line left : List ℕ) (end after : ℕ) (found : end ≡ p.at + index_of newline (slice p.at (length piece) piece))
+module _ (p : Place) (piece line left : List ℕ) (end after : ℕ) (end_is : end ≡ line_end piece p.at)
     (bound : end ≤ length piece) (some : p.at < length piece) (room : p.length ≤ longest) (whole : length line ≡ longest)
     (put : Puts (between p.at end piece) p.length line left after) where
   abbrev rest : List ℕ
@@ -36,10 +40,6 @@ module _ (p : Place) (piece line left : List ℕ) (end after : ℕ) (found : end
   -- the place as it is left, with the next byte of the piece
   abbrev pub placed : ℕ → Place
   placed at = fed_to after (p.long || ltb (longest - p.length) (end - p.at)) at p
-
-  end_is : end ≡ line_end piece p.at
-  unfolding slice
-  end_is = rw take-length at found
 
   bytes-are : between p.at end piece ≡ up_to rest
   bytes-are = let e : end - p.at ≡ index_of newline rest = omega (arith, end_is) in rw e
@@ -87,3 +87,35 @@ module _ (p : Place) (piece line left : List ℕ) (end after : ℕ) (found : end
     where
       all : length piece - p.at ≡ index_of newline rest
       all = omega (arith, end_is)
+
+-- What was fed, by where the newline is found among the bytes left, and by the place q that the bytes were put to.
+module _ (p q : Place) (piece line left : List ℕ) (some : p.at < length piece) (room : p.length ≤ longest) (whole : length line ≡ longest) where
+  abbrev ahead : List ℕ
+  ahead = take (length piece - p.at) (drop p.at piece)
+
+  ahead-all : ahead ≡ drop p.at piece
+  ahead-all = take_all (length piece - p.at) (drop p.at piece) (omega (arith, length-drop p.at piece))
+
+  pub ended-at : (k : ℕ) → Some k ≡ position (λ b. eqb b 10) ahead
+      → q ≡ fed_to q.length (p.long || ltb (longest - p.length) (length (take k ahead))) (p.at + k + 1) p
+      → Puts (take k ahead) p.length line left q.length → Feeds p piece line left (record { place = q; ended = true })
+  ended-at k found is put =
+      let f = here 10 ahead k found in
+      let first : k ≡ index_of newline (drop p.at piece) = rw ahead-all at f.0 in
+      let within : p.at + k < length piece = omega (arith, f.1, ap length ahead-all, length-drop p.at piece) in
+      let up : p.at + k - p.at ≡ k = omega arith in
+      let bytes : take k ahead ≡ between p.at (p.at + k) piece = rw (up, ahead-all) in
+      let long : length (take k ahead) ≡ p.at + k - p.at = rw up (length-take-le k ahead (omega (arith, f.1))) in
+      let end_is : p.at + k ≡ line_end piece p.at = omega arith in
+      let fed = feeds-ended p piece line left (p.at + k) q.length end_is (omega arith) some room whole (rw bytes at put) within in
+      subst (λ (x : Place). Feeds p piece line left (record { place = x; ended = true })) (sym (rw long at is)) fed
+
+  pub more-at : None ≡ position (λ b. eqb b 10) ahead
+      → q ≡ fed_to q.length (p.long || ltb (longest - p.length) (length ahead)) (length piece) p
+      → Puts ahead p.length line left q.length → Feeds p piece line left (record { place = q; ended = false })
+  more-at found is put =
+      let none : index_of newline (drop p.at piece) ≡ length (drop p.at piece) = rw ahead-all at (nowhere 10 ahead found) in
+      let long : length ahead ≡ length piece - p.at = ap length ahead-all ∙ length-drop p.at piece in
+      let end_is : length piece ≡ line_end piece p.at = omega (arith, none, length-drop p.at piece) in
+      let fed = feeds-more p piece line left (length piece) q.length end_is (omega arith) some room whole put (omega arith) in
+      subst (λ (x : Place). Feeds p piece line left (record { place = x; ended = false })) (sym (rw long at is)) fed

@@ -1,7 +1,7 @@
 -- What bytes do to a reader: those before the first newline are kept while the line has room for them, and the newline ends the line.
 -- Assumes nothing.
 use Prim.Native.Nat.{ℕ, zero, suc, ◌+◌, ◌<◌}
-use mathlib.Core.Bool.{Bool, true, false, cond, ◌||◌, or-true, or-false}
+use mathlib.Core.Bool.{Bool, true, false, cond, not, ◌||◌, or-true, or-false}
 use mathlib.Core.List.{List, [], ◌∷◌, ◌++◌, append-nil, append_assoc}
 use mathlib.Core.Path.{◌≡◌, refl, sym, ap, ◌∙◌}
 use native.Mathlib.Omega.{arith}
@@ -9,7 +9,9 @@ use borrow.Author.Tests.{lt-ltb, le-ltb, eqb-true}
 use lib.Dec.{eqb, ltb, leb-suc-suc}
 use lib.ListN.{length, get_or, take, length-append}
 use lib.Seq.{take-nil, take-suc}
-use Rattle.byte_search.specs.Search.{index_of, index_after}
+use Rattle.byte_search.specs.Search.{index_of}
+use native.Mathlib.Numerals.{one-add}
+use Rattle.std.proofs.lemmas.List.Sums.{prefix_len_stops}
 use Rattle.course.specs.declared.Manner.{Manner}
 use Rattle.course.specs.Reader.{Reader, longest, newline, line_ended, byte_kept, all_read}
 use Rattle.course.proofs.Claimed.{runs}
@@ -56,14 +58,11 @@ abbrev pub up_to : List ℕ → List ℕ
 up_to bs = take (index_of newline bs) bs
 
 newline-found : (bs : List ℕ) → index_of newline bs < length bs → get_or bs (index_of newline bs) 0 ≡ newline
-unfolding index_of index_after
-newline-found [] h = absurd (omega arith)
-newline-found (b ∷ bs) h = by (eqb b newline) refl (newline-found bs) h
+newline-found bs h = eqb-true _ newline (not-not _ (prefix_len_stops (λ b. not (eqb b newline)) bs 0 h))
   where
-    by : (t : Bool) → eqb b newline ≡ t → (index_of newline bs < length bs → get_or bs (index_of newline bs) 0 ≡ newline)
-        → index_after t (index_of newline bs) < suc (length bs) → get_or (b ∷ bs) (index_after t (index_of newline bs)) 0 ≡ newline
-    by true e rest h = eqb-true b newline e
-    by false e rest h = rest (omega arith)
+    not-not : (t : Bool) → not t ≡ false → t ≡ true
+    not-not true e = refl
+    not-not false e = sym e
 
 -- ---- bytes that are read
 
@@ -85,13 +84,12 @@ module _ (w : Manner) where
       by (suc n) h = rest n (byte_kept b r) (kept-one n b r h) ∙ keeping-one n b r h bs
 
   pub read-line : (bs : List ℕ) → Keeps (up_to bs)
-  unfolding index_of index_after
   read-line [] = keeps-none
   read-line (b ∷ bs) = by (eqb b newline) refl (read-line bs)
     where
-      by : (t : Bool) → eqb b newline ≡ t → Keeps (up_to bs) → Keeps (take (index_after t (index_of newline bs)) (b ∷ bs))
+      by : (t : Bool) → eqb b newline ≡ t → Keeps (up_to bs) → Keeps (take (cond (not t) (1 + index_of newline bs) 0) (b ∷ bs))
       by true e rest = keeps-none
-      by false e rest = keeps-one b (up_to bs) e rest
+      by false e rest = rw one-add (keeps-one b (up_to bs) e rest)
 
   pub read-ended : (bs : List ℕ) (r : Reader) → index_of newline bs < length bs
       → all_read w (take (suc (index_of newline bs)) bs) r ≡ line_ended w (all_read w (up_to bs) r)

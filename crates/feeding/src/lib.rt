@@ -1,9 +1,10 @@
 // The bytes of a piece are moved to the line, up to the line's end or the piece's.
 #![tactic(auto)]
 
-ghost use Rattle.std.specs.Prelude.{◌≤◌, ◌<◌, length};
+ghost use Rattle.std.specs.Prelude.{◌≡◌, ◌-◌, ◌≤◌, ◌<◌, ◌||◌, ltb, length};
+ghost use Rattle.text.specs.Puts.{Puts};
 ghost use Rattle.course.specs.Reader.{longest};
-ghost use Rattle.feeding.specs.Feeding.{Feeds};
+ghost use Rattle.feeding.specs.Feeding.{fed_to, Feeds};
 
 use byte_search::find;
 use course::Place;
@@ -17,30 +18,36 @@ pub struct Fed {
     pub ended: bool,
 }
 
-// What has no room in the line makes it too long.
+// The bytes go behind those that the line has. What has no room there makes it too long; the next byte of the piece is given.
+fn put(place: Place, bytes: &[u8], line: &mut Bytes, next: usize) -> Place
+    requires { place.length ≤ longest }
+    ensures is { result ≡ fed_to result.length (place.long || ltb (longest - place.length) (length bytes.now)) next place }
+    ensures put { Puts bytes.now place.length line.old line.new result.length }
+{
+    let before = place.length;
+    let mut p = place;
+    p.length = put_text(line, before, bytes);
+    p.long = p.long || LONGEST - before < bytes.len();
+    p.at = next;
+    p
+}
+
+// The bytes go to the line up to its end, or up to the piece's.
 pub fn feed(place: Place, piece: &[u8], line: &mut Bytes) -> Fed
     requires at_in_bounds { place.at < length piece.now }
     requires length_le_longest { place.length ≤ longest }
     ensures { Feeds place piece.now line.old line.new result }
 {
-    let have = piece.len();
     let at = place.at;
-    let end = find(piece, at, have, b'\n');
-    let before = place.length;
-    let after = put_text(line, before, &piece[at..end]);
-    let mut p = place;
-    p.length = after;
-    p.long = p.long | (LONGEST - before < end - at);
-    if end < have {
-        p.at = end + 1;
-        return Fed {
-            place: p,
+    let left = &piece[at..];
+    match find(left, b'\n') {
+        Some(end) => Fed {
+            place: put(place, &left[..end], line, at + end + 1),
             ended: true,
-        };
-    }
-    p.at = have;
-    Fed {
-        place: p,
-        ended: false,
+        },
+        None => Fed {
+            place: put(place, left, line, piece.len()),
+            ended: false,
+        },
     }
 }

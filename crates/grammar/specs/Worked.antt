@@ -1,12 +1,11 @@
 -- Lines of a history as the format's description has them, each with what it is. The time of a line before is 0.5 s.
 -- Assumes nothing.
-use Rattle.std.specs.Prelude.{ℕ, ◌+◌, ◌^◌, true, false, [], ◌∷◌, ◌++◌, ◌≡◌}
+use Rattle.std.specs.Prelude.{ℕ, ◌+◌, ◌^◌, true, false, [], ◌∷◌, ◌++◌, ◌≡◌, Some, None}
 use Prim.Native.String.{String}
 use Rattle.time.specs.declared.Time.{Time}
 use Rattle.reason.specs.declared.Reason.{Reason}
 use Rattle.reason.specs.declared.Reason.TheVariants as reason
 use Rattle.lent.specs.declared.Request.TheVariants.{WriteRegister, Write8, Reset, Environment}
-use Rattle.moments.specs.declared.Before.TheVariants as earlier
 use Rattle.words.specs.Text.{text}
 use Rattle.grammar.specs.declared.Line.{Line}
 use Rattle.grammar.specs.declared.Line.TheVariants.{Nothing, Call, Look, Wrong}
@@ -19,7 +18,7 @@ moment s f = record { 0 = s; 1 = f }
 
 -- what a line is after a line at 0.5 s
 abbrev pub is : String → Line
-is s = line_of (earlier.At (moment 0 (2 ^ 63))) (text s)
+is s = line_of (Some (moment 0 (2 ^ 63))) (text s)
 
 -- a fault in the columns from a first up to, not including, a last, counted from 0
 abbrev pub wrong : Reason → ℕ → ℕ → Line
@@ -34,7 +33,7 @@ pub record Worked : Type 0 where
   pub other_register : is "1 write FENR SWE" ≡ wrong reason.NoValue 13 16
   -- a length after the line before, which is cut down to raw units, and a comment
   pub relative : is "+0.000050 data 0080 fe # note" ≡ Call (moment 0 (2 ^ 63 + 922337203685477)) (Write8 0x80 0xFE)
-  pub first : line_of earlier.Nothing (text "+1 reset") ≡ wrong reason.NoTimeBefore 0 2
+  pub first : line_of None (text "+1 reset") ≡ wrong reason.NoTimeBefore 0 2
   -- an exact time, and the words of an environment
   pub exact : is "3:12 environment sleep module no-oscillator" ≡ Call (moment 3 12) (Environment 2 true false)
   -- looks
@@ -51,5 +50,5 @@ pub record Worked : Type 0 where
   pub unknown : is "1 wirte" ≡ wrong reason.UnknownCall 2 7
   pub more : is "1 reset now" ≡ wrong reason.MoreWords 8 11
   -- a line that ends with a carriage return
-  pub returned : line_of earlier.Nothing (text "1 reset" ++ 13 ∷ []) ≡ Call (moment 1 0) Reset
+  pub returned : line_of None (text "1 reset" ++ 13 ∷ []) ≡ Call (moment 1 0) Reset
   pub nothing : (is "" ≡ Nothing) × (is "  # a comment" ≡ Nothing)

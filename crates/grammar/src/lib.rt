@@ -2,14 +2,14 @@
 #![tactic(auto)]
 
 ghost use Rattle.std.specs.Prelude.{◌≡◌, ◌≤◌, length};
-ghost use Rattle.grammar.specs.Grammar.{line_for, call_line, line_of};
+ghost use Rattle.grammar.specs.Grammar.{line_for, call_line, parsed, line_of};
 
 use crate::lines::{
     data_line, ended, environment_line, look_line, read_line, word_line, write_line,
 };
 pub use fields::Fault;
 use lent::Request;
-use moments::{Before, Moment, moment_in};
+use moments::moment_in;
 use names::{Kind, call_named};
 use reason::Reason;
 use time::Time;
@@ -27,15 +27,16 @@ pub enum Line {
 }
 
 // What a line looks at: the whole flash, a byte by its address, or a cell of it by its bit too.
-#[derive(Clone, Copy)]
+#[derive(Clone, Copy, Debug, PartialEq, Eq)]
 pub enum Looking {
     Whole,
     Byte(u16),
     Cell(u16, u8),
 }
 
-fn line_for(kind: Kind, time: Time, line: &[u8], w: Word) -> Line
-    requires { (w.from ≤ w.to) × (w.to ≤ length line.now) }
+#[tactic(auto, unfolding(crate::specs::Grammar::line_for))]
+fn line_for(kind: Kind, time: Time, line: &[u8], w: Word) -> Result<Line, Fault>
+    requires { w.to ≤ length line.now }
     ensures { result ≡ line_for kind time line.now w }
 {
     match kind {
@@ -48,43 +49,44 @@ fn line_for(kind: Kind, time: Time, line: &[u8], w: Word) -> Line
         Kind::PowerOff => ended(Line::Call(time, Request::PowerOff), line, w),
         Kind::Environment => environment_line(time, line, w),
         Kind::Look => look_line(time, line, w),
-        Kind::Unknown => Line::Wrong(Fault {
-            reason: Reason::UnknownCall,
-            from: w.from,
-            to: w.to,
-        }),
     }
 }
 
-fn call_line(time: Time, line: &[u8], w: Word) -> Line
+#[tactic(auto, unfolding(crate::specs::Grammar::call_line))]
+fn call_line(time: Time, line: &[u8], w: Word) -> Result<Line, Fault>
     requires { w.to ≤ length line.now }
     ensures { result ≡ call_line time line.now w }
 {
     let called = word_at(line, w.to);
-    let from = called.from;
-    let to = called.to;
-    if from == to {
-        return Line::Wrong(Fault {
-            reason: Reason::NoCall,
-            from,
-            to,
-        });
+    if called.is_empty() {
+        return Err(Fault::at(Reason::NoCall, called));
     }
-    line_for(call_named(line, from, to), time, line, called)
+    match call_named(called.text(line)) {
+        Some(kind) => line_for(kind, time, line, called),
+        None => Err(Fault::at(Reason::UnknownCall, called)),
+    }
 }
 
-// What a line is, after a line with a time or without one.
-pub fn parse(line: &[u8], earlier: Before) -> Line
-    ensures { result ≡ line_of earlier line.now }
+#[tactic(auto, unfolding(crate::specs::Grammar::parsed))]
+fn parsed(line: &[u8], earlier: Option<Time>) -> Result<Line, Fault>
+    ensures { result ≡ parsed earlier line.now }
 {
     let w = word_at(line, 0);
-    let from = w.from;
-    let to = w.to;
-    if from == to {
-        return Line::Nothing;
+    if w.is_empty() {
+        return Ok(Line::Nothing);
     }
-    match moment_in(line, from, to, earlier) {
-        Moment::At(time) => call_line(time, line, w),
-        Moment::Wrong(reason) => Line::Wrong(Fault { reason, from, to }),
+    match moment_in(w.text(line), earlier) {
+        Ok(time) => call_line(time, line, w),
+        Err(reason) => Err(Fault::at(reason, w)),
+    }
+}
+
+// What a line is, after a line with a time or without one. A wrong line is a line too, which waits to be told in its place.
+pub fn parse(line: &[u8], earlier: Option<Time>) -> Line
+    ensures { result ≡ line_of earlier line.now }
+{
+    match parsed(line, earlier) {
+        Ok(whole) => whole,
+        Err(fault) => Line::Wrong(fault),
     }
 }

@@ -15,7 +15,8 @@ use Rattle.settle.proofs.Stored.{sets-append}
 use Rattle.lent.specs.Memory.{Memory}
 use Rattle.lent.specs.Asked.{Outcome}
 use Rattle.ledger.specs.Lists.{asked}
-use Rattle.moments.specs.declared.Before.{Before}
+use Rattle.std.specs.Prelude.{Option}
+use Rattle.time.specs.declared.Time.{Time}
 use Rattle.grammar.specs.declared.Line.{Line}
 use Rattle.grammar.specs.Grammar.{line_of}
 use Rattle.listing.specs.Calls.{word_of, call_at}
@@ -54,13 +55,13 @@ taken-calls (line ∷ lines) s =
 
 -- ---- what the replay reads
 
-pub line-typed : {b : Before} {l : Line} (rest : List Asking) → LineIn b l → InTypes rest → InTypes (calls_of l ++ rest)
+pub line-typed : {b : Option Time} {l : Line} (rest : List Asking) → LineIn b l → InTypes rest → InTypes (calls_of l ++ rest)
 line-typed rest nothing k = k
 line-typed rest (call h fits) k = (h, fits, k)
 line-typed rest look k = k
 line-typed rest wrong k = k
 
-calls-typed : (b : Before) (lines : List (List ℕ)) → InTypes (calls_in b lines)
+calls-typed : (b : Option Time) (lines : List (List ℕ)) → InTypes (calls_in b lines)
 unfolding calls_in
 calls-typed b [] = tt
 calls-typed b (line ∷ lines) = line-typed _ (line-in b line) (calls-typed (time_after b line) lines)

@@ -1,14 +1,12 @@
 -- The claims about the lines of a history: their calls have arguments and times in range; the replay reads, and runs, the calls that the
 -- lines ask for, in their order; and after a call or a look a `+` counts from its time. Assumes nothing.
-use Rattle.std.specs.Prelude.{ℕ, zero, suc, ◌+◌, ◌*◌, ◌≤◌, ◌≡◌, List, [], ◌∷◌, ◌++◌, map, length, take, drop}
+use Rattle.std.specs.Prelude.{ℕ, zero, suc, ◌+◌, ◌*◌, ◌≤◌, ◌≡◌, List, [], ◌∷◌, ◌++◌, Option, Some, map, length, take, drop}
 use Rattle.std.proofs.lemmas.List.Edits.{sets}
 use Rattle.time.specs.declared.Time.{Time}
 use Rattle.layout.specs.Whole.{TimeFits}
 use Rattle.lent.specs.declared.Request.{Request}
 use Rattle.lent.specs.Memory.{Memory}
 use Rattle.ledger.specs.Lists.{Asked, Numbers}
-use Rattle.moments.specs.declared.Before.{Before}
-use Rattle.moments.specs.declared.Before.TheVariants as before
 use Rattle.grammar.specs.declared.Looking.{Looking}
 use Rattle.grammar.specs.declared.Line.TheVariants.{Call, Look}
 use Rattle.grammar.specs.Grammar.{line_of}
@@ -46,12 +44,12 @@ pub record Kept (asked : List Asking) (s left : Waiting) : Type 0 where
 -- for all lines, whatever time the first counts from (none, where a text begins)
 pub record Histories : Type 0 where
   -- the calls that they ask for have arguments and times in their types' ranges
-  pub typed : (b : Before) (lines : List (List ℕ)) → InTypes (calls_in b lines)
+  pub typed : (b : Option Time) (lines : List (List ℕ)) → InTypes (calls_in b lines)
   -- they are kept after whatever waits, in a slice with room for them
   pub of_every_text : (lines : List (List ℕ)) (s : Waiting) → 3 * (s.count + length (calls_in s.before lines)) ≤ length s.calls
       → Kept (calls_in s.before lines) s (taken_all lines s)
 
 -- after a line that is a call or a look, a `+` counts from its time
 pub record Times : Type 0 where
-  pub after_call : (b : Before) (line : List ℕ) (t : Time) (q : Request) → line_of b line ≡ Call t q → time_after b line ≡ before.At t
-  pub after_look : (b : Before) (line : List ℕ) (t : Time) (l : Looking) → line_of b line ≡ Look t l → time_after b line ≡ before.At t
+  pub after_call : (b : Option Time) (line : List ℕ) (t : Time) (q : Request) → line_of b line ≡ Call t q → time_after b line ≡ Some t
+  pub after_look : (b : Option Time) (line : List ℕ) (t : Time) (l : Looking) → line_of b line ≡ Look t l → time_after b line ≡ Some t

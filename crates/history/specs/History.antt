@@ -1,13 +1,10 @@
 -- A history: its lines one after the other, and the calls that they ask for, as numbers that the replay takes.
 -- Assumes nothing.
-use Rattle.std.specs.Prelude.{ℕ, ◌+◌, ◌*◌, cond, ◌≡◌, List, [], ◌∷◌, ◌++◌, length}
+use Rattle.std.specs.Prelude.{ℕ, ◌+◌, ◌*◌, cond, ◌≡◌, List, [], ◌∷◌, ◌++◌, Option, Some, Result, Ok, Err, length}
 use Rattle.std.proofs.lemmas.List.Edits.{sets}
 use Rattle.time.specs.declared.Time.{Time}
 use Rattle.lent.specs.declared.Request.{Request}
-use Rattle.moments.specs.declared.Before.{Before}
-use Rattle.moments.specs.declared.Before.TheVariants as before
-use Rattle.moments.specs.declared.Moment.{Moment}
-use Rattle.moments.specs.declared.Moment.TheVariants as moment
+use Rattle.reason.specs.declared.Reason.{Reason}
 use Rattle.moments.specs.Moments.{moment_of}
 use Rattle.words.specs.Words.{word_at}
 use Rattle.fields.specs.Fields.{bytes_of, missing}
@@ -31,16 +28,16 @@ calls_of (Look t l) = []
 calls_of (Wrong f) = []
 
 -- a time that could be read, or else the earlier one
-abbrev pub read_or : Before → Moment → Before
-read_or b (moment.At t) = before.At t
-read_or b (moment.Wrong why) = b
+abbrev pub read_or : Option Time → Result Time Reason → Option Time
+read_or b (Ok t) = Some t
+read_or b (Err why) = b
 
 -- The time that a `+` in the next line counts from: that of the last line whose time could be read, whatever became of the rest of it.
-unfoldable pub time_after : Before → List ℕ → Before
+unfoldable pub time_after : Option Time → List ℕ → Option Time
 time_after b line = cond (missing (word_at line 0)) b (read_or b (moment_of b (bytes_of line (word_at line 0))))
 
 -- the calls of lines, in their order
-unfoldable pub calls_in : Before → List (List ℕ) → List Asking
+unfoldable pub calls_in : Option Time → List (List ℕ) → List Asking
 calls_in b [] = []
 calls_in b (line ∷ lines) = calls_of (line_of b line) ++ calls_in (time_after b line) lines
 
@@ -53,15 +50,15 @@ numbers_of (a ∷ rest) = word_of a.request ∷ a.time.0 ∷ a.time.1 ∷ number
 
 -- what the lines so far left: the time that the next one counts from, and how many calls wait, their numbers first in a slice
 pub record Waiting : Type 0 where
-  pub before : Before
+  pub before : Option Time
   pub count : ℕ
   pub calls : List ℕ
 
-abbrev pub waits : Before → ℕ → List ℕ → Waiting
+abbrev pub waits : Option Time → ℕ → List ℕ → Waiting
 waits b n calls = record { before = b; count = n; calls = calls }
 
 -- calls go behind those that wait, and the next line counts from the time b
-abbrev pub behind : List Asking → Before → Waiting → Waiting
+abbrev pub behind : List Asking → Option Time → Waiting → Waiting
 behind asked b s = waits b (s.count + length asked) (sets s.calls (3 * s.count) (numbers_of asked))
 
 -- a line is taken: its call, and its time

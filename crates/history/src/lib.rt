@@ -7,7 +7,7 @@ ghost use Rattle.history.specs.History.{time_after, waits, Takes};
 
 use grammar::{Line, parse};
 use listing::word_of;
-use moments::{Before, Moment, moment_in};
+use moments::moment_in;
 use time::Time;
 use words::word_at;
 
@@ -18,7 +18,7 @@ pub const NUMBERS: usize = 3;
 #[derive(Clone, Copy)]
 pub struct Taken {
     pub line: Line,
-    pub before: Before,
+    pub before: Option<Time>,
     pub waiting: usize,
 }
 
@@ -33,34 +33,25 @@ fn put_call(calls: &mut [u64], at: usize, what: u64, time: Time)
 }
 
 // The time that a `+` in the next line counts from.
-fn time_after(line: &[u8], earlier: Before) -> Before
+#[tactic(auto, unfolding(crate::specs::History::time_after))]
+fn time_after(line: &[u8], earlier: Option<Time>) -> Option<Time>
     ensures { result ≡ time_after earlier line.now }
 {
     let w = word_at(line, 0);
-    let from = w.from;
-    let to = w.to;
-    if from == to {
+    if w.is_empty() {
         return earlier;
     }
-    match moment_in(line, from, to, earlier) {
-        Moment::At(time) => Before::At(time),
-        Moment::Wrong(_) => earlier,
-    }
+    moment_in(w.text(line), earlier).ok().or(earlier)
 }
 
 // Takes a line: its call, if it has one, is put behind those that wait.
-pub fn take(line: &[u8], earlier: Before, calls: &mut [u64], waiting: usize) -> Taken
+pub fn take(line: &[u8], earlier: Option<Time>, calls: &mut [u64], waiting: usize) -> Taken
     requires { 3 * waiting + 3 ≤ length calls.old }
     ensures { Takes line.now (waits earlier waiting calls.old) result.line (waits result.before result.waiting calls.new) }
 {
     let parsed = parse(line, earlier);
     let before = time_after(line, earlier);
     match parsed {
-        Line::Nothing => Taken {
-            line: parsed,
-            before,
-            waiting,
-        },
         Line::Call(time, request) => {
             put_call(calls, NUMBERS * waiting, word_of(request), time);
             Taken {
@@ -69,12 +60,7 @@ pub fn take(line: &[u8], earlier: Before, calls: &mut [u64], waiting: usize) -> 
                 waiting: waiting + 1,
             }
         }
-        Line::Look(_, _) => Taken {
-            line: parsed,
-            before,
-            waiting,
-        },
-        Line::Wrong(_) => Taken {
+        Line::Nothing | Line::Look(_, _) | Line::Wrong(_) => Taken {
             line: parsed,
             before,
             waiting,

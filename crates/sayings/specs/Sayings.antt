@@ -1,11 +1,9 @@
 -- A time in seconds, exactly as a history may write it, and an event in words. Each is a template as it is printed.
 -- Assumes nothing.
-use Rattle.std.specs.Prelude.{ℕ, ◌+◌, ◌-◌, ◌/◌, min, Bool, cond, List, [], ◌∷◌, ◌++◌, eqb}
+use Rattle.std.specs.Prelude.{ℕ, ◌+◌, ◌-◌, ◌/◌, min, Bool, cond, List, [], ◌∷◌, ◌++◌, Option, Some, None, eqb}
 use Rattle.registers.specs.Calls.{ending_number}
 use Rattle.registers.specs.declared.Ending.TheVariants.{Completed}
 use Rattle.ledger.specs.Words.{kind_in, address_in, value_in, is_byte}
-use Rattle.moments.specs.declared.Exact.{Exact}
-use Rattle.moments.specs.declared.Exact.TheVariants.{Micros, Raw}
 use Rattle.moments.specs.Moments.{microsecond, exact_of}
 use Rattle.text.specs.Text.{said, either}
 
@@ -16,9 +14,9 @@ abbrev pub microsecond_in : ℕ → ℕ
 microsecond_in fraction = min (fraction / microsecond) 999999
 
 -- A fraction that is not 0: six decimals. Where it is not exactly that of some microseconds, the whole time follows as SECONDS:FRACTION.
-abbrev pub fraction_said : Exact → ℕ → ℕ → List ℕ
-fraction_said (Micros n) seconds fraction = said ".^" (n ∷ [])
-fraction_said Raw seconds fraction = said ".^ (%:%)" (microsecond_in fraction ∷ seconds ∷ fraction ∷ [])
+abbrev pub fraction_said : Option ℕ → ℕ → ℕ → List ℕ
+fraction_said (Some n) seconds fraction = said ".^" (n ∷ [])
+fraction_said None seconds fraction = said ".^ (%:%)" (microsecond_in fraction ∷ seconds ∷ fraction ∷ [])
 
 abbrev pub instant_said : ℕ → ℕ → List ℕ
 instant_said seconds fraction =

@@ -4,7 +4,7 @@ ghost use Rattle.text.specs.Puts.{Puts};
 ghost use Rattle.std.specs.Prelude.{◌≡◌};
 ghost use Rattle.sayings.specs.Sayings.{microsecond_in, fraction_said, instant_said};
 
-use moments::{Exact, MICROSECOND, micros_of};
+use moments::{MICROSECOND, micros_of};
 use text::say;
 
 // The microsecond of a second in which a fraction lies.
@@ -18,8 +18,8 @@ fn put_fraction(out: &mut [u8], at: usize, seconds: u64, fraction: u64) -> usize
     ensures { Puts (fraction_said (exact_of fraction) seconds fraction) at out.old out.new result }
 {
     match micros_of(fraction) {
-        Exact::Micros(n) => say(out, at, b".^", &[n]),
-        Exact::Raw => say(
+        Some(n) => say(out, at, b".^", &[n]),
+        None => say(
             out,
             at,
             b".^ (%:%)",

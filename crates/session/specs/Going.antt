@@ -1,8 +1,7 @@
 -- A run of the program over a file: whatever bytes the system gave, in whatever pieces, the desk comes to what the definition of a run says
 -- of them. Assumes nothing.
-use Rattle.std.specs.Prelude.{ℕ, ◌≤◌, ◌<◌, ◌≡◌, Bool, true, false, List}
+use Rattle.std.specs.Prelude.{ℕ, ◌≤◌, ◌<◌, ◌≡◌, Bool, true, false, List, None}
 use Rattle.lent.specs.Memory.{Memory}
-use Rattle.moments.specs.declared.Before.TheVariants.{Nothing}
 use Rattle.grammar.specs.declared.Line.TheVariants as line
 use Rattle.course.specs.declared.Complaint.{Complaint}
 use Rattle.course.specs.declared.Course.{Course}
@@ -55,7 +54,7 @@ pub record ReadWhole (w : Manner) (before : Desk) (c : Course) (m : Memory) (eve
 abbrev pub beginning_with : Course → Run
 beginning_with c = record {
   course = c;
-  place = record { before = Nothing; lines = 0; length = 0; long = false; waiting = 0; next = 0; due = line.Nothing; running = false; at = 0 };
+  place = record { before = None; lines = 0; length = 0; long = false; waiting = 0; next = 0; due = line.Nothing; running = false; at = 0 };
   have = 0;
   more = true;
   failed = false;

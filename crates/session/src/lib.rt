@@ -9,7 +9,6 @@ use crate::turns::take_turns;
 use course::memory::{Array, Buffer, Charges, Events, LONGEST, NUMBERS, ROOM, Record};
 use course::{Course, Manner, Place};
 use grammar::Line;
-use moments::Before;
 use std::io;
 use std::rt::Files;
 use telling::reading::open;
@@ -49,7 +48,7 @@ fn beginning(course: Course) -> Run
     Run {
         course,
         place: Place {
-            before: Before::Nothing,
+            before: None,
             lines: 0,
             length: 0,
             long: false,

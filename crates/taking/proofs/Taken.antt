@@ -9,7 +9,8 @@ use borrow.Author.Tests.{leb-false}
 use lib.Dec.{leb}
 use lib.ListN.{length, take, set}
 use Rattle.time.proofs.Bools.{neither}
-use Rattle.moments.specs.declared.Before.{Before}
+use Rattle.std.specs.Prelude.{Option}
+use Rattle.time.specs.declared.Time.{Time}
 use Rattle.grammar.specs.declared.Line.{Line}
 use Rattle.grammar.specs.declared.Line.TheVariants.{Nothing, Call, Look, Wrong}
 use Rattle.grammar.specs.Grammar.{line_of}
@@ -60,7 +61,7 @@ module _ (p : Place) (line calls numbers : List ℕ) (r : Reading p) where
   n = raised p.lines 1
 
   -- what is left to show is which calls wait
-  placed : {b : Before} {k : ℕ} {l : Line} {calls' numbers' : List ℕ}
+  placed : {b : Option Time} {k : ℕ} {l : Line} {calls' numbers' : List ℕ}
       → b ≡ cond p.long p.before (time_after p.before whole)
       → l ≡ cond p.long (Wrong too_long) (line_of p.before whole)
       → k ≤ room

@@ -10,7 +10,8 @@ use lib.Seq.{sets, get_or-set_same, get_or-set_other}
 use Rattle.time.specs.declared.Time.{Time}
 use Rattle.cell.specs.Cell.{at}
 use Rattle.lent.specs.declared.Request.{Request}
-use Rattle.moments.specs.declared.Before.{Before}
+use Rattle.std.specs.Prelude.{Option}
+use Rattle.time.specs.declared.Time.{Time}
 use Rattle.grammar.specs.declared.Line.{Line}
 use Rattle.grammar.specs.declared.Line.TheVariants.{Nothing, Call, Look, Wrong}
 use Rattle.grammar.specs.Grammar.{line_of}
@@ -67,7 +68,7 @@ abbrev pub numbered : ℕ → List Asking → List Numbered
 numbered n [] = []
 numbered n (a ∷ rest) = record { number = n; asking = a } ∷ numbered n rest
 
-module _ (b : Before) (k n : ℕ) (line calls numbers : List ℕ) (words : 3 * k + 3 ≤ length calls) (beside : k < length numbers) where
+module _ (b : Option Time) (k n : ℕ) (line calls numbers : List ℕ) (words : 3 * k + 3 ≤ length calls) (beside : k < length numbers) where
   abbrev left : Waiting
   left = taken line (waits b k calls)
 

@@ -1,6 +1,6 @@
 -- A line of a history that was read whole: its call waits, or it is due. Assumes nothing.
-use Rattle.std.specs.Prelude.{ℕ, ◌≤◌, ◌<◌, ◌≡◌, Bool, true, false, cond, ◌||◌, List, [], leb}
-use Rattle.moments.specs.declared.Before.{Before}
+use Rattle.std.specs.Prelude.{ℕ, ◌≤◌, ◌<◌, ◌≡◌, Bool, true, false, cond, ◌||◌, List, [], Option, leb}
+use Rattle.time.specs.declared.Time.{Time}
 use Rattle.grammar.specs.declared.Line.{Line}
 use Rattle.grammar.specs.declared.Line.TheVariants.{Nothing, Call, Look, Wrong}
 use Rattle.history.specs.History.{calls_of}
@@ -31,7 +31,7 @@ abbrev pub due_of : Line → Line
 due_of l = cond (is_due l) l Nothing
 
 -- The place after a line, the n-th, with k calls that wait then: they are run where the line is due, or where there is no more room.
-abbrev pub place_after : Place → Before → ℕ → ℕ → Line → Place
+abbrev pub place_after : Place → Option Time → ℕ → ℕ → Line → Place
 place_after p b n k line = record {
   before = b;
   lines = n;

@@ -9,7 +9,7 @@ use course::{Place, more};
 use fields::Fault;
 use grammar::Line;
 use history::take;
-use moments::Before;
+use time::Time;
 use reason::Reason;
 
 // A look and a fault are done after the calls that wait, so that all is told in its order.
@@ -36,7 +36,7 @@ fn due_of(line: Line) -> Line
 }
 
 // The place after a line, with its number and the calls that wait then.
-fn place_after(place: Place, before: Before, lines: u64, waiting: usize, line: Line) -> Place
+fn place_after(place: Place, before: Option<Time>, lines: u64, waiting: usize, line: Line) -> Place
     ensures { result ≡ place_after place before lines waiting line }
 {
     let due = due_of(line);

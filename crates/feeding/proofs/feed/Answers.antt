@@ -1,14 +1,13 @@
--- `feeding::feed` meets its contract: its two answers are those of a line that ended and of one that goes on. Assumes nothing.
-use borrow.Author.Rules.{rules}
-use Rattle.feeding.proofs.Line.{feeds-ended, feeds-more}
+-- The two answers are those of a line that ended and of one that goes on.
+use Rattle.std.proofs.Common.{rules}
+use Rattle.feeding.proofs.Line.{ended-at, more-at}
 use Rattle.feeding.proofs.feed.Goals as goal
 
-pub returns-then-end-have : goal.returns-then-end-have
-returns-then-end-have c =
-    let found = c.find-end.ensures in
-    feeds-ended _ _ _ _ _ _ found.0 found.1 (search rules) (search rules) (search rules) c.put_text-after.ensures (search rules)
+pub returns-in-Some : goal.returns-in-Some
+returns-in-Some c =
+    ended-at c.args.place c.put.result c.args.piece.now c.args.line.now c.put.new.line (search rules) (search rules) (search rules) c.in-Some.end c.in-Some.ensures c.put.ensures.is c.put.ensures.put
 
-pub returns : goal.returns
-returns c =
-    let found = c.find-end.ensures in
-    feeds-more _ _ _ _ _ _ found.0 found.1 (search rules) (search rules) (search rules) c.put_text-after.ensures (search rules)
+pub returns-in-None : goal.returns-in-None
+returns-in-None c =
+    let put = c.put-in-None in
+    more-at c.args.place put.result c.args.piece.now c.args.line.now put.new.line (search rules) (search rules) (search rules) c.in-None.ensures put.ensures.is put.ensures.put

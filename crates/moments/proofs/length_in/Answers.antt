@@ -1,5 +1,4 @@
 -- Where a byte is found says which form the word has.
-use Rattle.std.proofs.Common.{sym}
 use Rattle.moments.specs.Moments.{length_of}
 use Rattle.moments.proofs.Words.{there, head, tail, not_there}
 use Rattle.moments.proofs.length_in.Goals as goal
