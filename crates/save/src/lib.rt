@@ -53,6 +53,7 @@ fn put_pages(out: &mut [u8], indices: &[u16], charges: &[u64], count: usize)
 }
 
 // The runs of fields of the state, each after what stands before it.
+#[tactic(auto, using(crate::proofs::Runs::rows), unfolding(snapshot::specs::Snapshot::state_fields))]
 fn put_controls(out: &mut [u8], at: usize, flash: Flash)
     requires { at + 5 ≤ length out.old }
     ensures { take (at + 5) out.new ≡ take at out.old ++ controls.write (state_fields flash).0 }
@@ -77,6 +78,7 @@ fn put_latched(out: &mut [u8], at: usize, flash: Flash)
     r.page.put(out, at + PAGE);
 }
 
+#[tactic(auto, using(crate::proofs::Runs::rows), unfolding(snapshot::specs::Snapshot::state_fields))]
 fn put_supplies(out: &mut [u8], at: usize, flash: Flash)
     requires { at + 4 ≤ length out.old }
     ensures { take (at + 4) out.new ≡ take at out.old ++ supplies.write (state_fields flash).1.1.0 }
