@@ -8,6 +8,7 @@ use control::{Mode, PendingSense, Supply};
 use registers::Registers;
 use time::Time;
 
+// A supply and a mode of any byte, as the definitions have them: whether a byte is one is tested before, so there is no `TryFrom`.
 #[tactic(auto, unfolding(layout::specs::Layout::supply_of))]
 pub fn supply_of(b: u8) -> Supply
     ensures { result ≡ supply_of b }
