@@ -3,7 +3,6 @@ ghost use Rattle.std.specs.Prelude.{◌≡◌};
 ghost use Rattle.layout.specs.Layout.{flag_byte, supply_of, mode_of, option_byte, pending_address, pending_instant, pending_of, head_of, addresses_of, halves_of, registers_of};
 
 use cell::PAGE;
-use control::supplies::{mode_number, supply_number};
 use control::{Mode, PendingSense, Supply};
 use registers::Registers;
 use time::Time;
@@ -81,8 +80,6 @@ fn pending_of(option: u8, address: u16, instant: Time) -> Option<PendingSense>
 pub fn head_of(r: Registers) -> [u8; 10]
     ensures { result ≡ head_of r }
 {
-    let supply = r.supply;
-    let mode = r.mode;
     let pending = r.verify_pending;
     [
         r.control,
@@ -90,9 +87,9 @@ pub fn head_of(r: Registers) -> [u8; 10]
         r.erase,
         flag_byte(r.enabled),
         flag_byte(r.power_down_disabled),
-        supply_number(supply),
+        u8::from(r.supply),
         flag_byte(r.oscillator),
-        mode_number(mode),
+        u8::from(r.mode),
         flag_byte(r.module),
         option_byte(pending),
     ]

@@ -5,7 +5,7 @@ ghost use Rattle.registers.specs.Calls.{settles};
 ghost use Rattle.flash.specs.Chip.{placed, verified, unserved, settled_answer, stored_answer, answer_limit};
 
 use bits::{EV, PV};
-use control::supplies::supply_number;
+use control::Supply;
 use permit::{serve_byte, serve_word};
 use registers::{Call, Pulse, Registers};
 use time::Time;
@@ -14,10 +14,9 @@ use time::Time;
 fn verified(address: u16, time: Time, registers: Registers, sensed: [u8; 4]) -> u8
     ensures { result ≡ verified address time registers sensed }
 {
-    let supply = registers.supply;
     let low = registers.control % 16;
     let verifies = (low == PV) | (low == EV);
-    if verifies & !(supply_number(supply) == 2) & time.reached(registers.ready) {
+    if verifies & (registers.supply != Supply::Stopped) & time.reached(registers.ready) {
         return sensed[(address % 4) as usize];
     }
     0xFF

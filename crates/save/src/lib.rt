@@ -16,7 +16,6 @@ use checks::accepts;
 use coding::read;
 use coding::state::flag_byte;
 use control::PendingSense;
-use control::supplies::{mode_number, supply_number};
 use flash::Flash;
 use lent::checking::sizes_misfit;
 use rows::numbers::{put16, put32};
@@ -95,12 +94,10 @@ fn put_supplies(out: &mut [u8], at: usize, flash: Flash)
     ensures { take (at + 4) out.new ≡ take at out.old ++ supplies.write (state_fields flash).1.1.0 }
 {
     let r = flash.registers;
-    let supply = r.supply;
-    let mode = r.mode;
     let run = [
-        supply_number(supply),
+        u8::from(r.supply),
         flag_byte(r.oscillator),
-        mode_number(mode),
+        u8::from(r.mode),
         flag_byte(r.module),
     ];
     put_bytes(out, at, &run);

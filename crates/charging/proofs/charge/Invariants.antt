@@ -16,14 +16,8 @@ ruled d latch a j q = moved d (page_bit latch j) a q
 
 abbrev pub invariant-loop-k : goal.invariant-loop-k
 invariant-loop-k l =
-    (l.k ≤ 8) × (length l.cells ≡ 1024) × Further (ruled l.direction l.latch l.by) (8 * l.i) (8 * l.i + l.k) l.initial.cells l.cells
-
-abbrev pub decreases-loop-k : goal.decreases-loop-k
-decreases-loop-k l = 8 - l.k
+    Further (ruled l.direction l.latch l.by) (8 * l.i) (8 * l.i + l.k) l.initial.cells l.cells
 
 abbrev pub invariant-loop-i : goal.invariant-loop-i
 invariant-loop-i l =
-    (l.i ≤ 128) × (length l.cells ≡ 1024) × (l.cells ≡ partly (ruled l.direction l.latch l.by) (8 * l.i) l.initial.cells)
-
-abbrev pub decreases-loop-i : goal.decreases-loop-i
-decreases-loop-i l = 128 - l.i
+    l.cells ≡ partly (ruled l.direction l.latch l.by) (8 * l.i) l.initial.cells

@@ -7,4 +7,4 @@ use Rattle.save.proofs.put_supplies.Goals as goal
 pub returns : goal.returns
 unfolding state_fields
 returns c =
-    rw (supplies-row, ← c.supply_number.ensures, ← c.flag_byte.ensures, ← c.mode_number.ensures, ← c.flag_byte-2.ensures) c.put_bytes.ensures
+    rw (supplies-row, ← c.from.ensures, ← c.flag_byte.ensures, ← c.from-2.ensures, ← c.flag_byte-2.ensures) c.put_bytes.ensures

@@ -10,7 +10,4 @@ use Rattle.sensing.proofs.sense_page.Given as goal
 
 abbrev pub invariant-loop-i : goal.invariant-loop-i
 invariant-loop-i l =
-    (l.i ≤ 128) × (length l.out ≡ 128) × (l.out ≡ partly (λ b x. sensed_byte l.m (l.address + b) (λ k. at l.cells (8 * b + k))) l.i l.initial.out)
-
-abbrev pub decreases-loop-i : goal.decreases-loop-i
-decreases-loop-i l = 128 - l.i
+    l.out ≡ partly (λ b x. sensed_byte l.m (l.address + b) (λ k. at l.cells (8 * b + k))) l.i l.initial.out

@@ -6,4 +6,4 @@ use Rattle.coding.proofs.state.head_of.Goals as goal
 pub returns : goal.returns
 unfolding head_of
 returns c =
-    rw (c.option_byte.ensures, c.flag_byte-5.ensures, c.mode_number.ensures, c.flag_byte-4.ensures, c.supply_number.ensures, c.flag_byte-3.ensures, c.flag_byte-2.ensures, c.flag_byte.ensures)
+    rw (c.option_byte.ensures, c.flag_byte-5.ensures, c.from-2.ensures, c.flag_byte-4.ensures, c.from.ensures, c.flag_byte-3.ensures, c.flag_byte-2.ensures, c.flag_byte.ensures)
