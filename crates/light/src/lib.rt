@@ -95,6 +95,7 @@ fn run_writes(flash: Flash, calls: &[u64], from: usize, end: usize) -> Ahead
     let may = may_pulse(flash.registers);
     let mut settings = settings_of(flash.registers);
     let mut since = flash.pulse_since;
+    // No for: where the loop has come to is part of the answer, also where it begins past the end.
     let mut i: usize = from;
     while i < end {
         let what = calls[3 * i];

@@ -9,7 +9,4 @@ use Rattle.look.proofs.imaging.write_exposed.Given as goal
 
 abbrev pub invariant-loop-i : goal.invariant-loop-i
 invariant-loop-i l =
-    (l.i ≤ 128) × (l.out ≡ sets l.initial.out l.start (take l.i (drop l.start (seen l.indices l.array l.charges l.pulse l.latch l.exposure))))
-
-abbrev pub decreases-loop-i : goal.decreases-loop-i
-decreases-loop-i l = 128 - l.i
+    l.out ≡ sets l.initial.out l.start (take l.i (drop l.start (seen l.indices l.array l.charges l.pulse l.latch l.exposure)))
