@@ -6,8 +6,8 @@ ghost use Rattle.registers.specs.Pulses.{ready_for, program_pulse, erase_pulse, 
 use crate::{PAGE_BYTES, Pulse, Registers};
 use bits::{E, ESU, P, PSU, SWE, has};
 use cell::Direction;
-use control::blocks::erase_range;
 use control::Supply;
+use control::blocks::erase_range;
 use time::Time;
 use waits::trip_wait;
 

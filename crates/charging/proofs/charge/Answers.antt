@@ -3,10 +3,9 @@
 -- Assumes nothing.
 use Prim.Native.Nat.{ℕ, ◌+◌, ◌<◌, ◌-◌, ◌*◌, ◌^◌, min}
 use mathlib.Core.List.{List}
-use mathlib.Core.Path.{◌≡◌, refl, sym, ◌∙◌}
+use mathlib.Core.Path.{◌≡◌, sym, ◌∙◌}
 use native.Mathlib.Nat.{add-zero}
 use native.Mathlib.Omega.{arith}
-use lib.ListN.{length-set}
 use Rattle.time.specs.Raw.{span}
 use Rattle.cell.specs.Cell.{at, mapi, rate, page_bit, charged_page}
 use Rattle.cell.specs.declared.Direction.{Direction}
@@ -31,8 +30,8 @@ loop-k-preserved c =
     let i = c.loop-i.i in
     let n : 8 * i + (l.k + 1) ≡ 8 * i + l.k + 1 = omega arith in
     λ xs e.
-        rw n (partly-turn (ruled c.args.direction c.args.latch.now c.amount-by.result) (8 * i + l.k) xs l.cells _ (l.invariant xs e)
-        (c.moved.ensures ∙ rw (c.bit.ensures, cell-bit _ i l.k (omega arith))))
+    rw n (partly-turn (ruled c.args.direction c.args.latch.now c.amount-by.result) (8 * i + l.k) xs l.cells _ (l.invariant xs e)
+    (c.moved.ensures ∙ rw (c.bit.ensures, cell-bit _ i l.k (omega arith))))
 
 pub loop-i-preserved : goal.loop-i-preserved
 loop-i-preserved c =

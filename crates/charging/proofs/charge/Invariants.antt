@@ -1,10 +1,9 @@
 -- `charging::charge` meets its contract. The invariant of both loops: the cells passed are moved by the clipped amount, and the others are
 -- as they were; at the end the clipped amount is replaced by the exposure's, cell by cell.
 -- Assumes nothing.
-use Prim.Native.Nat.{ℕ, ◌+◌, ◌≤◌, ◌-◌, ◌*◌}
+use Prim.Native.Nat.{ℕ, ◌+◌, ◌*◌}
 use mathlib.Core.List.{List}
 use mathlib.Core.Path.{◌≡◌}
-use lib.ListN.{length}
 use Rattle.cell.specs.Cell.{moved, page_bit}
 use Rattle.cell.specs.declared.Direction.{Direction}
 use Rattle.cell.proofs.Partly.{partly, Further}

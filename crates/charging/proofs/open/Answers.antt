@@ -2,10 +2,9 @@
 -- they were.
 -- Assumes nothing.
 use Prim.Native.Nat.{◌+◌, ◌*◌}
-use mathlib.Core.Path.{◌≡◌, refl, sym, ◌∙◌}
+use mathlib.Core.Path.{◌≡◌, sym, ◌∙◌}
 use native.Mathlib.Nat.{add-zero}
 use native.Mathlib.Omega.{arith}
-use lib.ListN.{length-set}
 use Rattle.cell.specs.Cell.{opened_page}
 use Rattle.cell.proofs.Partly.{partly-turn, partly-all, cell-bit}
 use Rattle.charging.proofs.open.Invariants.{first}
@@ -20,8 +19,8 @@ loop-k-preserved c =
     let i = c.loop-i.i in
     let n : 8 * i + (l.k + 1) ≡ 8 * i + l.k + 1 = omega arith in
     λ xs e.
-        rw n (partly-turn (first c.args.bytes.now) (8 * i + l.k) xs l.cells _ (l.invariant xs e)
-        (c.first_charge.ensures ∙ rw (c.bit.ensures, cell-bit _ i l.k (omega arith))))
+    rw n (partly-turn (first c.args.bytes.now) (8 * i + l.k) xs l.cells _ (l.invariant xs e)
+    (c.first_charge.ensures ∙ rw (c.bit.ensures, cell-bit _ i l.k (omega arith))))
 
 pub loop-i-preserved : goal.loop-i-preserved
 loop-i-preserved c =

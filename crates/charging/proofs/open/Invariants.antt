@@ -1,10 +1,9 @@
 -- `charging::open` meets its contract. The invariant of both loops: the cells passed have their first charges, and the others are as
 -- they were.
 -- Assumes nothing.
-use Prim.Native.Nat.{ℕ, ◌+◌, ◌*◌, ◌≤◌, ◌-◌}
+use Prim.Native.Nat.{ℕ, ◌+◌, ◌*◌}
 use mathlib.Core.List.{List}
 use mathlib.Core.Path.{◌≡◌}
-use lib.ListN.{length}
 use Rattle.cell.specs.Cell.{page_bit, first_charge}
 use Rattle.cell.proofs.Partly.{partly, Further}
 use Rattle.charging.proofs.open.Given as goal

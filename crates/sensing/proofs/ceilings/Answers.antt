@@ -1,6 +1,6 @@
 -- `sensing::ceilings` meets its contract. The loop's invariant: each place passed holds the ceiling of the class there, which is the cell's.
 -- Assumes nothing.
-use mathlib.Core.Path.{◌≡◌, refl, ◌∙◌}
+use mathlib.Core.Path.{◌≡◌, ◌∙◌}
 use native.Mathlib.Omega.{arith}
 use lib.ListN.{replicate}
 use Rattle.cell.specs.Cell.{class_of, ceiling_of, ceiling_table}

@@ -1,9 +1,8 @@
 -- `sensing::sense_page` meets its contract. The loop's invariant: the bytes passed are what their cells sense, and the others are as they
 -- were; the eight cells lent to `sense_byte` are those of the page from eight times the byte's place on.
 -- Assumes nothing.
-use Prim.Native.Nat.{◌≤◌, ◌-◌, ◌+◌, ◌*◌}
+use Prim.Native.Nat.{◌+◌, ◌*◌}
 use mathlib.Core.Path.{◌≡◌}
-use lib.ListN.{length}
 use Rattle.cell.specs.Cell.{sensed_byte, at}
 use Rattle.cell.proofs.Partly.{partly}
 use Rattle.sensing.proofs.sense_page.Given as goal

@@ -1,6 +1,5 @@
 -- `settling::expose` meets its contract. The loop's invariant: index, array, charges and events are those after the pages passed.
 -- Assumes nothing.
-use Prim.Native.Nat.{◌-◌, ◌≤◌}
 use Rattle.time.specs.Raw.{span}
 use Rattle.settle.proofs.Turns.{cells, Turned}
 use Rattle.settling.proofs.expose.Given as goal

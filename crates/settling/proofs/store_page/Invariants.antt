@@ -1,8 +1,6 @@
 -- `settling::store_page` meets its contract. The loop's invariant: the bytes passed are stored, with an event for each change.
 -- Assumes nothing.
-use mathlib.Core.Path.{◌≡◌}
 use Prim.Native.Nat.{◌+◌, ◌-◌, ◌≤◌}
-use lib.ListN.{length}
 use Rattle.cell.specs.Cell.{at}
 use Rattle.settle.proofs.Stored.{Stored}
 use Rattle.settling.proofs.store_page.Given as goal

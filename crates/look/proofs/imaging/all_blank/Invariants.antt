@@ -1,7 +1,7 @@
 -- `look::imaging::all_blank` meets its contract. The loop's invariant: the page is blank if the bytes not yet passed are.
 -- Assumes nothing.
 use mathlib.Core.Path.{◌≡◌}
-use Prim.Native.Nat.{◌+◌, ◌-◌, ◌≤◌}
+use Prim.Native.Nat.{◌+◌, ◌-◌}
 use Rattle.flash.specs.Looking.{all_blank}
 use Rattle.flash.proofs.Look.{seen}
 use Rattle.look.proofs.imaging.all_blank.Given as goal

@@ -1,6 +1,6 @@
 -- `look::imaging::exposed_cells` meets its contract. The loop's invariant: each cell passed has moved.
 -- Assumes nothing.
-use mathlib.Core.Path.{refl, ◌∙◌}
+use mathlib.Core.Path.{◌∙◌}
 use native.Mathlib.Omega.{arith}
 use Rattle.cell.proofs.Partly.{partly-turn, partly-all}
 use Rattle.look.proofs.imaging.exposed_cells.Invariants.{moved-there}

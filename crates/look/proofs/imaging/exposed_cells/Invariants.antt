@@ -1,7 +1,7 @@
 -- `look::imaging::exposed_cells` meets its contract. The loop's invariant: each cell passed has moved.
 -- Assumes nothing.
 use mathlib.Core.Path.{◌≡◌}
-use Prim.Native.Nat.{ℕ, ◌+◌, ◌-◌, ◌*◌, ◌≤◌}
+use Prim.Native.Nat.{ℕ, ◌+◌, ◌*◌}
 use mathlib.Core.List.{List}
 use Rattle.time.specs.declared.Duration.{Duration}
 use Rattle.registers.specs.declared.Pulse.{Pulse}

@@ -1,9 +1,7 @@
 -- `look::imaging::write_exposed` meets its contract. The loop's invariant: the first bytes of the image's page are stored, as many as were
 -- passed. Assumes nothing.
-use mathlib.Core.Path.{◌≡◌, refl, ap, ◌∙◌}
+use mathlib.Core.Path.{◌≡◌}
 use native.Mathlib.Omega.{arith}
-use lib.ListN.{length}
-use lib.Seq.{length-sets}
 use Rattle.settle.proofs.Expose.{expose-array-length}
 use Rattle.flash.proofs.Look.{sets-turn}
 use Rattle.look.proofs.imaging.write_exposed.Goals as goal

@@ -1,7 +1,6 @@
 -- `look::imaging::write_exposed` meets its contract. The loop's invariant: the first bytes of the image's page are stored, as many as were
 -- passed. Assumes nothing.
 use mathlib.Core.Path.{◌≡◌}
-use Prim.Native.Nat.{◌-◌, ◌≤◌}
 use lib.ListN.{take, drop}
 use lib.Seq.{sets}
 use Rattle.flash.proofs.Look.{seen}

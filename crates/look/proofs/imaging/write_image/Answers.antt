@@ -1,9 +1,9 @@
 -- `look::imaging::write_image` meets its contract. The loop's invariant: the image's first pages are stored, as many as were passed. A page
 -- that the exposure does not reach is the stored one. Assumes nothing.
-use mathlib.Core.Path.{◌≡◌, refl, ap, sym, ◌∙◌}
+use mathlib.Core.Path.{◌≡◌, ap, sym, ◌∙◌}
 use Prim.Native.Nat.{◌+◌, ◌*◌}
 use native.Mathlib.Omega.{arith}
-use lib.ListN.{length, take, drop}
+use lib.ListN.{take, drop}
 use lib.Seq.{sets, length-sets}
 use Rattle.time.specs.Raw.{span}
 use Rattle.settle.specs.Pages.{Cells}

@@ -1,7 +1,7 @@
 -- `look::imaging::write_image` meets its contract. The loop's invariant: the image's first pages are stored, as many as were passed. A page
 -- that the exposure does not reach is the stored one. Assumes nothing.
 use mathlib.Core.Path.{◌≡◌}
-use Prim.Native.Nat.{◌-◌, ◌*◌, ◌≤◌}
+use Prim.Native.Nat.{◌*◌}
 use lib.ListN.{take}
 use lib.Seq.{sets}
 use Rattle.flash.proofs.Look.{seen}

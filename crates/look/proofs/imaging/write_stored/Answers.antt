@@ -1,7 +1,7 @@
 -- `look::imaging::write_stored` meets its contract: the page's bytes, lent to the copy and put back, are stored there. Assumes nothing.
 use mathlib.Core.Path.{◌≡◌}
 use mathlib.Core.List.{List, ◌++◌, append_assoc}
-use Prim.Native.Nat.{ℕ, ◌+◌, ◌-◌, ◌≤◌}
+use Prim.Native.Nat.{ℕ, ◌+◌, ◌≤◌}
 use lib.ListN.{length, take, drop, length-take, length-drop}
 use lib.Seq.{drop-drop}
 use Rattle.std.proofs.lemmas.List.Edits.{sets, sets-eq}

@@ -1,6 +1,6 @@
 -- `settle::pages::byte_cells` meets its contract. The loop's invariant: each place passed holds the charge of its cell.
 -- Assumes nothing.
-use mathlib.Core.Path.{◌≡◌, refl, ◌∙◌}
+use mathlib.Core.Path.{◌≡◌, ◌∙◌}
 use native.Mathlib.Omega.{arith}
 use lib.ListN.{replicate}
 use Rattle.cell.proofs.Partly.{partly-turn, partly-all}

@@ -1,6 +1,6 @@
 -- `settle::pages::byte_cells` meets its contract. The loop's invariant: each place passed holds the charge of its cell.
 -- Assumes nothing.
-use Prim.Native.Nat.{ℕ, ◌+◌, ◌-◌, ◌*◌, ◌≤◌}
+use Prim.Native.Nat.{ℕ, ◌+◌, ◌*◌}
 use mathlib.Core.Path.{◌≡◌}
 use mathlib.Core.List.{List}
 use Rattle.cell.proofs.Partly.{partly}

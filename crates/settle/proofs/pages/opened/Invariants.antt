@@ -2,7 +2,7 @@
 -- those of the index.
 -- Assumes nothing.
 use mathlib.Core.Path.{◌≡◌}
-use Prim.Native.Nat.{◌+◌, ◌-◌, ◌≤◌}
+use Prim.Native.Nat.{◌+◌, ◌≤◌}
 use lib.ListN.{drop}
 use Rattle.settle.specs.Pages.{opened}
 use Rattle.settle.proofs.pages.opened.Given as goal
