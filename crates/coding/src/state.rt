@@ -3,7 +3,6 @@ ghost use Rattle.std.specs.Prelude.{◌≡◌};
 ghost use Rattle.layout.specs.Layout.{supply_of, mode_of, head_of, addresses_of, halves_of, registers_of};
 
 use cell::PAGE;
-use control::supplies::{mode_number, supply_number};
 use control::{Mode, PendingSense, Supply};
 use registers::Registers;
 use time::Time;
@@ -45,9 +44,9 @@ pub fn head_of(r: Registers) -> [u8; 10]
         r.erase,
         u8::from(r.enabled),
         u8::from(r.power_down_disabled),
-        supply_number(r.supply),
+        u8::from(r.supply),
         u8::from(r.oscillator),
-        mode_number(r.mode),
+        u8::from(r.mode),
         u8::from(r.module),
         u8::from(r.verify_pending.is_some()),
     ]

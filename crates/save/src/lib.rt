@@ -14,7 +14,6 @@ ghost use Rattle.snapshot.specs.Places.{pages_place, page_at};
 
 use cell::{PAGE, PAGE_CELLS, PAGES};
 use control::PendingSense;
-use control::supplies::{mode_number, supply_number};
 use flash::Flash;
 use lent::opening;
 use refusal::Refusal;
@@ -85,9 +84,9 @@ fn put_supplies(out: &mut [u8], at: usize, flash: Flash)
 {
     let r = flash.registers;
     let run = [
-        supply_number(r.supply),
+        u8::from(r.supply),
         u8::from(r.oscillator),
-        mode_number(r.mode),
+        u8::from(r.mode),
         u8::from(r.module),
     ];
     put_row(out, at, &run);
