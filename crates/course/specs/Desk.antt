@@ -1,6 +1,6 @@
 -- What a line of a history does: a call is made, a look is taken, or the line is complained of. The bytes said are those of standard
 -- output; complaints are told by what they are about. Assumes nothing.
-use Rattle.std.specs.Prelude.{ℕ, zero, suc, ◌+◌, ◌*◌, ◌≡◌, Bool, true, false, cond, List, [], ◌∷◌, ◌++◌, eqb}
+use Rattle.std.specs.Prelude.{ℕ, zero, suc, ◌+◌, ◌*◌, ◌≡◌, Bool, true, false, cond, List, [], ◌∷◌, ◌++◌, eqb, Option, option_to_list}
 use Rattle.time.specs.declared.Time.{Time}
 use Rattle.cell.specs.Cell.{pages, at}
 use Rattle.flash.specs.Looking.{charge_at, peek_at, blank_at, image_at}
@@ -24,7 +24,6 @@ use Rattle.verdict.specs.Legible.{legible_in}
 use Rattle.verdict.specs.Pulses.{tallied}
 use Rattle.course.specs.declared.Complaint.{Complaint}
 use Rattle.course.specs.declared.Complaint.TheVariants.{Refused, Unseen, Wrong}
-use Rattle.course.specs.declared.Complaint.TheVariants as complaint
 use Rattle.course.specs.declared.Course.{Course}
 use Rattle.course.specs.declared.Manner.{Manner}
 use Rattle.course.specs.Course.{with_calls, after_refusal, after_left_out}
@@ -154,17 +153,11 @@ numbered_from (suc n) i calls numbers =
 
 -- ---- what a function shows of a desk that had said nothing before
 
--- the complaints that a complaint stands for: itself, or none
-abbrev pub complaints_of : Complaint → List Complaint
-complaints_of complaint.Nothing = []
-complaints_of (Refused n number) = Refused n number ∷ []
-complaints_of (Unseen n number) = Unseen n number ∷ []
-complaints_of (Wrong n f) = Wrong n f ∷ []
-
--- The course, memory and event words are the desk's; what it has said is put at the start of a slice, and it has complained of this.
-pub record Leaves (d : Desk) (c : Course) (m : Memory) (events : List ℕ) (complaint : Complaint) (out left : List ℕ) (end : ℕ) : Type 0 where
+-- The course, memory and event words are the desk's; what it has said is put at the start of a slice, and it has complained of this, or of
+-- nothing.
+pub record Leaves (d : Desk) (c : Course) (m : Memory) (events : List ℕ) (complaint : Option Complaint) (out left : List ℕ) (end : ℕ) : Type 0 where
   pub course_is : c ≡ d.course
   pub memory_is : m ≡ d.memory
   pub events_are : events ≡ d.events
   pub said_is : Puts d.said 0 out left end
-  pub complaints_are : complaints_of complaint ≡ d.complaints
+  pub complaints_are : option_to_list complaint ≡ d.complaints

@@ -10,6 +10,7 @@ use grammar::Line;
 use moments::Before;
 use time::Time;
 use verdict::Tally;
+use verdict::blocks::BLOCKS;
 
 pub mod memory;
 
@@ -34,7 +35,6 @@ pub struct Course {
 // What a run complains of, with the number of its line: a refused call, a refused look, a line that can't be taken.
 #[derive(Clone, Copy)]
 pub enum Complaint {
-    Nothing,
     Refused(u64, u32),
     Unseen(u64, u32),
     Wrong(u64, Fault),
@@ -69,8 +69,8 @@ pub fn begun(last: Time) -> Course
         refused: 0,
         left_out: 0,
         tally: Tally {
-            completed: [0u64; 6],
-            interrupted: [0u64; 6],
+            completed: [0; BLOCKS],
+            interrupted: [0; BLOCKS],
         },
         last,
         stopped: false,
@@ -81,10 +81,7 @@ pub fn begun(last: Time) -> Course
 pub fn more(n: u64, by: u64) -> u64
     ensures { result ≡ raised n by }
 {
-    if u64::MAX - n < by {
-        return u64::MAX;
-    }
-    n + by
+    n.saturating_add(by)
 }
 
 // So many more calls were made, the last at a time; the tally is counted by the caller.
@@ -93,11 +90,9 @@ pub fn with_calls(course: Course, calls: u64, last: Time, tally: Tally) -> Cours
 {
     Course {
         made: more(course.made, calls),
-        refused: course.refused,
-        left_out: course.left_out,
         tally,
         last,
-        stopped: course.stopped,
+        ..course
     }
 }
 
@@ -105,18 +100,20 @@ pub fn with_calls(course: Course, calls: u64, last: Time, tally: Tally) -> Cours
 pub fn after_refusal(course: Course, go_on: bool) -> Course
     ensures { result ≡ after_refusal go_on course }
 {
-    let mut c = course;
-    c.refused = more(c.refused, 1);
-    c.stopped = !go_on;
-    c
+    Course {
+        refused: more(course.refused, 1),
+        stopped: !go_on,
+        ..course
+    }
 }
 
 // A line or a look can't be taken. Without --go-on it ends the run.
 pub fn after_left_out(course: Course, go_on: bool) -> Course
     ensures { result ≡ after_left_out go_on course }
 {
-    let mut c = course;
-    c.left_out = more(c.left_out, 1);
-    c.stopped = !go_on;
-    c
+    Course {
+        left_out: more(course.left_out, 1),
+        stopped: !go_on,
+        ..course
+    }
 }

@@ -1,5 +1,6 @@
 // The memory of a run. It is lent as arrays, so that loops need not keep lengths in mind.
 use cell::{CELLS, FLASH_SIZE};
+pub use history::NUMBERS;
 use layout::RECORD_LEN;
 
 // Event words for the largest range, block 4, and its end.
@@ -7,8 +8,6 @@ pub const EVENT_WORDS: usize = 0x7001;
 
 // So many calls may wait, each with three numbers: what, seconds, fraction.
 pub const ROOM: usize = 1024;
-
-pub const NUMBERS: usize = 3;
 
 // One byte more than the longest snapshot, every page opened and a sense pending, so that a longer file shows.
 pub const BUFFER: usize = 3195927;

@@ -13,10 +13,11 @@ use wrong_words::wrong;
 fn sentence(out: &mut [u8], at: usize, word: &[u8], reason: Reason) -> usize
     ensures { Ends at out.old result }
 {
-    if word.len() == 0 {
-        return missing(out, at, reason);
+    if word.is_empty() {
+        missing(out, at, reason)
+    } else {
+        wrong(out, at, word, reason)
     }
-    wrong(out, at, word, reason)
 }
 
 // A line that can't be taken, with its place. Where the program goes on, it says that the line is left out.

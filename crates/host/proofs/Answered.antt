@@ -1,23 +1,36 @@
--- What a function leaves in its answer's place: the answer where the number is 0, else what stood there. Assumes nothing.
+-- What a function leaves in its answer's place: the answer, or on a refusal what stood there. Assumes nothing.
 use mathlib.Core.Path.{◌≡◌, refl, sym, ◌∙◌}
-use mathlib.Core.Logic.{◌≢◌}
-use Prim.Native.Nat.{ℕ, zero, suc}
-use Rattle.lent.specs.Looked.{Shown, answered}
+use mathlib.Core.Bool.{Bool, true, false}
+use Prim.Native.Nat.{ℕ, zero, suc, ◌≤◌}
+use native.Mathlib.Omega.{arith}
+use Rattle.std.specs.Prelude.{Result, Ok, Err, MatchResult}
+use Rattle.std.specs.Int.{from_bool}
+use Rattle.refusal.specs.declared.Refusal.{Refusal}
+use Rattle.refusal.specs.Refusal.{number, told, Answers}
+use Rattle.refusal.proofs.Outcomes.{number-some}
+use Rattle.layout.specs.Layout.{flag_byte}
+use Rattle.lent.specs.Looked.{answered}
 
-pub answer-given : (number answer old : ℕ) {value : ℕ} → number ≡ 0 → value ≡ answer → value ≡ answered number answer old
-answer-given number answer old e h = rw e h
+pub answer-kept : (r : Refusal) (answer old : ℕ) → old ≡ answered (number r) answer old
+answer-kept r answer old = by (number r) (number-some r)
+  where
+    by : (n : ℕ) → 1 ≤ n → old ≡ answered n answer old
+    by zero h = absurd (omega arith)
+    by (suc n) h = refl
 
-pub answer-kept : (number answer old : ℕ) → number ≢ 0 → old ≡ answered number answer old
-answer-kept zero answer old n = absurd (n refl)
-answer-kept (suc k) answer old n = refl
+pub answer-placed : (answer old : ℕ) {n number new : ℕ} (o : Result ℕ Refusal) → Answers n answer o
+    → (number ≡ told o) × MatchResult o (λ v. new ≡ v) (λ _. new ≡ old) → (number ≡ n) × (new ≡ answered number answer old)
+answer-placed answer old (Ok v) a p = rw p.0 (sym a.0, p.1 ∙ a.1)
+answer-placed answer old (Err r) a p = rw p.0 (a, p.1 ∙ answer-kept r answer old)
 
-pub shown-given : (refusal answer number old : ℕ) {value : ℕ} → Shown refusal answer number value → number ≡ 0
-    → (number ≡ refusal) × (value ≡ answered number answer old)
-shown-given refusal answer number old s e = (s.number_is, answer-given number answer old e (s.value_is (sym s.number_is ∙ e)))
+-- the same of a flag
+flag_is : (b : Bool) → from_bool b ≡ flag_byte b
+flag_is true = refl
+flag_is false = refl
 
-pub shown-kept : (refusal answer number old : ℕ) {value : ℕ} → Shown refusal answer number value → number ≢ 0
-    → (number ≡ refusal) × (old ≡ answered number answer old)
-shown-kept refusal answer number old s n = (s.number_is, answer-kept number answer old n)
+pub flag-placed : (answer : Bool) (old : ℕ) {n number new : ℕ} (o : Result Bool Refusal) → Answers n answer o
+    → (number ≡ told o) × MatchResult o (λ v. new ≡ from_bool v) (λ _. new ≡ old) → (number ≡ n) × (new ≡ answered number (flag_byte answer) old)
+flag-placed answer old (Ok v) a p = rw p.0 (sym a.0, p.1 ∙ flag_is v ∙ rw a.1)
+flag-placed answer old (Err r) a p = rw p.0 (a, p.1 ∙ answer-kept r (flag_byte answer) old)
 
--- both, for a look that tells its number and its value
-pub ruleset shown = (shown-given, shown-kept)
+pub ruleset placed = (answer-placed, flag-placed)

@@ -1,12 +1,32 @@
 // The ledger's calls.
-ghost use Rattle.std.specs.Prelude.{◌≡◌};
+ghost use Rattle.std.specs.Prelude.{◌≡◌, ◌<◌};
+ghost use Rattle.refusal.specs.Refusal.{told};
+ghost use Rattle.flash.specs.Chip.{answer_limit};
 ghost use Rattle.lent.specs.declared.Request.TheVariants.{WriteRegister, Write8, Read8, Read16, Protect, Reset, PowerOff, Environment};
-ghost use Rattle.lent.specs.Asked.{outcome, Told};
+ghost use Rattle.lent.specs.Asked.{call_of, outcome, value_of, Told};
 ghost use Rattle.lent.specs.Looked.{answered};
 
 use ask::ask;
-use lent::Request;
+use lent::{Answer, Request};
+use refusal::{Refusal, told};
 use time::Time;
+
+// Any call, with its count of event words put in its place: none on a refusal.
+fn called(
+    record: &mut [u8],
+    array: &mut [u8],
+    charges: &mut [u64],
+    events: &mut [u64],
+    request: Request,
+    time: Time,
+    count: &mut u64,
+) -> Result<Answer, Refusal>
+    ensures { Told (outcome request time events.old (record { bytes = «record».old; array = array.old; charges = charges.old })) (told result) count.new «record».new array.new charges.new events.new × (value_of result ≡ (outcome request time events.old (record { bytes = «record».old; array = array.old; charges = charges.old })).value) × (value_of result < answer_limit (call_of request)) }
+{
+    let outcome = ask(record, array, charges, events, request, time);
+    *count = outcome.unwrap_or_default().count as u64;
+    outcome
+}
 
 // A write to a register.
 #[unsafe(no_mangle)]
@@ -23,16 +43,15 @@ pub extern "C" fn flash_write_register(
 ) -> u32
     ensures { Told (outcome (WriteRegister address value) (record { 0 = seconds; 1 = fraction }) events.old (record { bytes = «record».old; array = array.old; charges = charges.old })) result count.new «record».new array.new charges.new events.new }
 {
-    let answer = ask(
+    told(called(
         record,
         array,
         charges,
         events,
         Request::WriteRegister(address, value),
         Time(seconds, fraction),
-    );
-    *count = answer.count as u64;
-    answer.number
+        count,
+    ))
 }
 
 // A data write.
@@ -50,16 +69,15 @@ pub extern "C" fn flash_write8(
 ) -> u32
     ensures { Told (outcome (Write8 address value) (record { 0 = seconds; 1 = fraction }) events.old (record { bytes = «record».old; array = array.old; charges = charges.old })) result count.new «record».new array.new charges.new events.new }
 {
-    let answer = ask(
+    told(called(
         record,
         array,
         charges,
         events,
         Request::Write8(address, value),
         Time(seconds, fraction),
-    );
-    *count = answer.count as u64;
-    answer.number
+        count,
+    ))
 }
 
 // A byte read.
@@ -77,19 +95,22 @@ pub extern "C" fn flash_read8(
 ) -> u32
     ensures { Told (outcome (Read8 address) (record { 0 = seconds; 1 = fraction }) events.old (record { bytes = «record».old; array = array.old; charges = charges.old })) result count.new «record».new array.new charges.new events.new × (value.new ≡ answered result (outcome (Read8 address) (record { 0 = seconds; 1 = fraction }) events.old (record { bytes = «record».old; array = array.old; charges = charges.old })).value value.old) }
 {
-    let answer = ask(
+    let outcome = called(
         record,
         array,
         charges,
         events,
         Request::Read8(address),
         Time(seconds, fraction),
+        count,
     );
-    *count = answer.count as u64;
-    if answer.number == 0 {
-        *value = answer.value as u8;
+    match outcome {
+        Ok(answer) => {
+            *value = answer.value as u8;
+            0
+        }
+        Err(refusal) => u32::from(refusal),
     }
-    answer.number
 }
 
 // A word read, high byte first.
@@ -107,19 +128,22 @@ pub extern "C" fn flash_read16(
 ) -> u32
     ensures { Told (outcome (Read16 address) (record { 0 = seconds; 1 = fraction }) events.old (record { bytes = «record».old; array = array.old; charges = charges.old })) result count.new «record».new array.new charges.new events.new × (value.new ≡ answered result (outcome (Read16 address) (record { 0 = seconds; 1 = fraction }) events.old (record { bytes = «record».old; array = array.old; charges = charges.old })).value value.old) }
 {
-    let answer = ask(
+    let outcome = called(
         record,
         array,
         charges,
         events,
         Request::Read16(address),
         Time(seconds, fraction),
+        count,
     );
-    *count = answer.count as u64;
-    if answer.number == 0 {
-        *value = answer.value;
+    match outcome {
+        Ok(answer) => {
+            *value = answer.value;
+            0
+        }
+        Err(refusal) => u32::from(refusal),
     }
-    answer.number
 }
 
 // Protection from outside.
@@ -135,16 +159,15 @@ pub extern "C" fn flash_protect(
 ) -> u32
     ensures { Told (outcome Protect (record { 0 = seconds; 1 = fraction }) events.old (record { bytes = «record».old; array = array.old; charges = charges.old })) result count.new «record».new array.new charges.new events.new }
 {
-    let answer = ask(
+    told(called(
         record,
         array,
         charges,
         events,
         Request::Protect,
         Time(seconds, fraction),
-    );
-    *count = answer.count as u64;
-    answer.number
+        count,
+    ))
 }
 
 // A reset.
@@ -160,16 +183,15 @@ pub extern "C" fn flash_reset(
 ) -> u32
     ensures { Told (outcome Reset (record { 0 = seconds; 1 = fraction }) events.old (record { bytes = «record».old; array = array.old; charges = charges.old })) result count.new «record».new array.new charges.new events.new }
 {
-    let answer = ask(
+    told(called(
         record,
         array,
         charges,
         events,
         Request::Reset,
         Time(seconds, fraction),
-    );
-    *count = answer.count as u64;
-    answer.number
+        count,
+    ))
 }
 
 // Power-off.
@@ -185,16 +207,15 @@ pub extern "C" fn flash_power_off(
 ) -> u32
     ensures { Told (outcome PowerOff (record { 0 = seconds; 1 = fraction }) events.old (record { bytes = «record».old; array = array.old; charges = charges.old })) result count.new «record».new array.new charges.new events.new }
 {
-    let answer = ask(
+    told(called(
         record,
         array,
         charges,
         events,
         Request::PowerOff,
         Time(seconds, fraction),
-    );
-    *count = answer.count as u64;
-    answer.number
+        count,
+    ))
 }
 
 // A change of mode, module or oscillator.
@@ -213,14 +234,13 @@ pub extern "C" fn flash_environment(
 ) -> u32
     ensures { Told (outcome (Environment mode «module» oscillator) (record { 0 = seconds; 1 = fraction }) events.old (record { bytes = «record».old; array = array.old; charges = charges.old })) result count.new «record».new array.new charges.new events.new }
 {
-    let answer = ask(
+    told(called(
         record,
         array,
         charges,
         events,
         Request::Environment(mode, module, oscillator),
         Time(seconds, fraction),
-    );
-    *count = answer.count as u64;
-    answer.number
+        count,
+    ))
 }

@@ -1,5 +1,5 @@
 // Looking, and a new array: nothing changes but the output, or what is made.
-#![tactic(auto, using(crate::proofs::Answered::shown))]
+#![tactic(auto, using(crate::proofs::Answered::placed))]
 
 ghost use Rattle.std.specs.Prelude.{◌≡◌, length};
 ghost use Rattle.layout.specs.Layout.{record_length};
@@ -7,6 +7,7 @@ ghost use Rattle.lent.specs.Looked.{answered, register_refusal, register_answer,
 
 use layout::RECORD_LEN;
 use lent::making::make;
+use refusal::{told, told_into};
 use see::{see_blank, see_byte, see_charge, see_image, see_normal, see_register};
 use time::Time;
 
@@ -28,7 +29,7 @@ pub extern "C" fn flash_new(
 ) -> u32
     ensures { (result ≡ new_refusal firmware.now (length «record».old) (length array.old) (length charges.now)) × («record».new ≡ new_record result «record».old) × (array.new ≡ new_array result firmware.now array.old) }
 {
-    make(firmware, record, array, charges.len())
+    told(make(firmware, record, array, charges.len()))
 }
 
 // A register as reading shows it.
@@ -36,23 +37,16 @@ pub extern "C" fn flash_new(
 pub extern "C" fn flash_register(record: &[u8], address: u16, value: &mut u8) -> u32
     ensures { (result ≡ register_refusal «record».now) × (value.new ≡ answered result (register_answer «record».now address) value.old) }
 {
-    let seen = see_register(record, address);
-    if seen.number == 0 {
-        *value = seen.value;
-    }
-    seen.number
+    told_into(see_register(record, address), value)
 }
 
 // Whether reading is normal at a time.
+#[tactic(auto, using(crate::proofs::Answered::placed), unfolding(lent::specs::Looked::normal_answer))]
 #[unsafe(no_mangle)]
 pub extern "C" fn flash_normal(record: &[u8], seconds: u64, fraction: u64, normal: &mut u8) -> u32
     ensures { (result ≡ normal_refusal «record».now (record { 0 = seconds; 1 = fraction })) × (normal.new ≡ answered result (normal_answer «record».now (record { 0 = seconds; 1 = fraction })) normal.old) }
 {
-    let seen = see_normal(record, Time(seconds, fraction));
-    if seen.number == 0 {
-        *normal = seen.value;
-    }
-    seen.number
+    told_into(see_normal(record, Time(seconds, fraction)), normal)
 }
 
 // A byte of the image at a time.
@@ -68,11 +62,7 @@ pub extern "C" fn flash_peek(
 ) -> u32
     ensures { (result ≡ peek_refusal address (record { 0 = seconds; 1 = fraction }) (record { bytes = «record».now; array = array.now; charges = charges.now })) × (value.new ≡ answered result (peek_answer address (record { 0 = seconds; 1 = fraction }) (record { bytes = «record».now; array = array.now; charges = charges.now })) value.old) }
 {
-    let byte = see_byte(record, array, charges, address, Time(seconds, fraction));
-    if byte.number == 0 {
-        *value = byte.value;
-    }
-    byte.number
+    told_into(see_byte(record, array, charges, address, Time(seconds, fraction)), value)
 }
 
 // The charge of a cell at a time.
@@ -89,21 +79,11 @@ pub extern "C" fn flash_cell_charge(
 ) -> u32
     ensures { (result ≡ charge_refusal address bit (record { 0 = seconds; 1 = fraction }) (record { bytes = «record».now; array = array.now; charges = charges.now })) × (charge.new ≡ answered result (charge_answer address bit (record { 0 = seconds; 1 = fraction }) (record { bytes = «record».now; array = array.now; charges = charges.now })) charge.old) }
 {
-    let cell = see_charge(
-        record,
-        array,
-        charges,
-        address,
-        bit,
-        Time(seconds, fraction),
-    );
-    if cell.number == 0 {
-        *charge = cell.value;
-    }
-    cell.number
+    told_into(see_charge(record, array, charges, address, bit, Time(seconds, fraction)), charge)
 }
 
 // Whether the page of an address is blank at a time.
+#[tactic(auto, using(crate::proofs::Answered::placed), unfolding(lent::specs::Looked::blank_answer))]
 #[unsafe(no_mangle)]
 pub extern "C" fn flash_blank_page(
     record: &[u8],
@@ -116,11 +96,7 @@ pub extern "C" fn flash_blank_page(
 ) -> u32
     ensures { (result ≡ blank_refusal address (record { 0 = seconds; 1 = fraction }) (record { bytes = «record».now; array = array.now; charges = charges.now })) × (blank.new ≡ answered result (blank_answer address (record { 0 = seconds; 1 = fraction }) (record { bytes = «record».now; array = array.now; charges = charges.now })) blank.old) }
 {
-    let page = see_blank(record, array, charges, address, Time(seconds, fraction));
-    if page.number == 0 {
-        *blank = page.value;
-    }
-    page.number
+    told_into(see_blank(record, array, charges, address, Time(seconds, fraction)), blank)
 }
 
 // The image at a time, at the beginning of the output.
@@ -135,5 +111,5 @@ pub extern "C" fn flash_image(
 ) -> u32
     ensures { (result ≡ image_refusal (record { 0 = seconds; 1 = fraction }) (length out.old) (record { bytes = «record».now; array = array.now; charges = charges.now })) × (out.new ≡ image_left result (record { 0 = seconds; 1 = fraction }) (record { bytes = «record».now; array = array.now; charges = charges.now }) out.old) }
 {
-    see_image(record, array, charges, Time(seconds, fraction), out)
+    told(see_image(record, array, charges, Time(seconds, fraction), out))
 }

@@ -5,25 +5,19 @@ ghost use Rattle.lent.specs.Looked.{answered};
 ghost use Rattle.snapshot.specs.Snapshot.{snapshot_of};
 ghost use Rattle.snapshot.specs.Asked.{valid_refusal, valid_answer, write_refusal, written_out, read_refusal, memory_read, Left};
 
-use refusal::told;
+use refusal::{told, told_into};
 use restore::read_snapshot;
 use save::write_snapshot;
 use time::Time;
 use validity::see_valid;
 
 // Whether a record's state is valid at a time.
-#[tactic(auto, using(crate::proofs::Answered::shown))]
+#[tactic(auto, using(crate::proofs::Answered::placed), unfolding(snapshot::specs::Asked::valid_answer))]
 #[unsafe(no_mangle)]
 pub extern "C" fn flash_validate(record: &[u8], seconds: u64, fraction: u64, valid: &mut u8) -> u32
     ensures { (result ≡ valid_refusal «record».now (record { 0 = seconds; 1 = fraction })) × (valid.new ≡ answered result (valid_answer «record».now (record { 0 = seconds; 1 = fraction })) valid.old) }
 {
-    match see_valid(record, Time(seconds, fraction)) {
-        Ok(is_valid) => {
-            *valid = u8::from(is_valid);
-            0
-        }
-        Err(refusal) => u32::from(refusal),
-    }
+    told_into(see_valid(record, Time(seconds, fraction)), valid)
 }
 
 // The snapshot, at the beginning of the output, and its length.

@@ -6,43 +6,33 @@ ghost use Rattle.text.specs.Puts.{Ends};
 use reason::Reason;
 use text::putting::put_text;
 
-// A word of an environment, or a bit.
-fn of_environment(out: &mut [u8], at: usize, reason: Reason) -> usize
-    ensures { Ends at out.old result }
-{
+// The sentence on each reason. The last are those that only a word that is there can have.
+fn sentence(reason: Reason) -> &'static [u8] {
     match reason {
-        Reason::NoMode => put_text(
-            out,
-            at,
-            b"a mode is missing: active, subactive, sleep, subsleep, watch or standby",
-        ),
-        Reason::NoModule => put_text(out, at, b"a word is missing: module or no-module"),
-        Reason::NoOscillator => put_text(
-            out,
-            at,
-            b"a word is missing: oscillator or no-oscillator",
-        ),
-        _ => put_text(out, at, b"a bit is missing: 0 to 7"),
-    }
-}
-
-// A word of another call.
-fn of_call(out: &mut [u8], at: usize, reason: Reason) -> usize
-    ensures { Ends at out.old result }
-{
-    match reason {
-        Reason::NoRegister => put_text(
-            out,
-            at,
+        Reason::NoTime =>
+            b"a time is missing: write seconds (12 or 12.000050), SECONDS:FRACTION, or + and a length",
+        Reason::NoCall =>
+            b"after the time a call is missing: write, data, read, word, protect, reset, power-off, environment or look",
+        Reason::NoRegister =>
             b"a register is missing: FLMCR1, FLMCR2, FLPWCR, EBR1, FENR or four hexadecimal digits",
-        ),
-        Reason::NoAddress => put_text(out, at, b"an address is missing: four hexadecimal digits"),
-        Reason::NoByte => put_text(out, at, b"a byte is missing: two hexadecimal digits"),
-        _ => put_text(
-            out,
-            at,
-            b"a value is missing: two hexadecimal digits, or bits joined by +",
-        ),
+        Reason::NoAddress => b"an address is missing: four hexadecimal digits",
+        Reason::NoByte => b"a byte is missing: two hexadecimal digits",
+        Reason::NoValue => b"a value is missing: two hexadecimal digits, or bits joined by +",
+        Reason::NoMode =>
+            b"a mode is missing: active, subactive, sleep, subsleep, watch or standby",
+        Reason::NoModule => b"a word is missing: module or no-module",
+        Reason::NoOscillator => b"a word is missing: oscillator or no-oscillator",
+        Reason::NoBitNumber => b"a bit is missing: 0 to 7",
+        Reason::TooLong => b"the line is longer than 1,000 bytes",
+        Reason::TooManyDecimals
+        | Reason::TooLarge
+        | Reason::NoTimeBefore
+        | Reason::PastTheLastInstant
+        | Reason::UnknownCall
+        | Reason::MoreWords
+        | Reason::PastTheEnd
+        | Reason::WordPastTheEnd
+        | Reason::BitTwice => b"a word is missing",
     }
 }
 
@@ -50,24 +40,5 @@ fn of_call(out: &mut [u8], at: usize, reason: Reason) -> usize
 pub fn missing(out: &mut [u8], at: usize, reason: Reason) -> usize
     ensures { Ends at out.old result }
 {
-    match reason {
-        Reason::NoTime => put_text(
-            out,
-            at,
-            b"a time is missing: write seconds (12 or 12.000050), SECONDS:FRACTION, or + and a length",
-        ),
-        Reason::NoCall => put_text(
-            out,
-            at,
-            b"after the time a call is missing: write, data, read, word, protect, reset, power-off, environment or look",
-        ),
-        Reason::TooLong => put_text(out, at, b"the line is longer than 1,000 bytes"),
-        Reason::NoMode | Reason::NoModule | Reason::NoOscillator | Reason::NoBitNumber => {
-            of_environment(out, at, reason)
-        }
-        Reason::NoRegister | Reason::NoAddress | Reason::NoByte | Reason::NoValue => {
-            of_call(out, at, reason)
-        }
-        _ => put_text(out, at, b"a word is missing"),
-    }
+    put_text(out, at, sentence(reason))
 }

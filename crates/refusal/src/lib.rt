@@ -1,8 +1,7 @@
 // Why a call, a look, a new array or a snapshot is refused, with the number that the table of refusals gives it.
 #![tactic(auto)]
 
-ghost use Rattle.std.specs.Prelude.{◌≡◌};
-ghost use Rattle.std.specs.Result.{result_unwrap_or};
+ghost use Rattle.std.specs.Prelude.{◌≡◌, MatchResult};
 ghost use Rattle.refusal.specs.Refusal.{number, told};
 
 #[derive(Clone, Copy, Debug, PartialEq, Eq)]
@@ -61,10 +60,15 @@ pub fn told<T: Drop>(outcome: Result<T, Refusal>) -> u32
     }
 }
 
-// The same, with the answer put in a place, which keeps what stands there where there is none.
-pub fn told_into<T: Copy>(outcome: Result<T, Refusal>, place: &mut T) -> u32
-    ensures { (result ≡ told outcome) × (place.new ≡ result_unwrap_or outcome place.old) }
+// The same, with the answer put in a place, as the place has it; a refusal leaves what stands there.
+pub fn told_into<T, U: From<T> + Drop>(outcome: Result<T, Refusal>, place: &mut U) -> u32
+    ensures { (result ≡ told outcome) × MatchResult outcome (λ value. U.from_gives value place.new) (λ _. place.new ≡ place.old) }
 {
-    *place = outcome.unwrap_or(*place);
-    told(outcome)
+    match outcome {
+        Ok(value) => {
+            *place = U::from(value);
+            0
+        }
+        Err(why) => u32::from(why),
+    }
 }

@@ -1,40 +1,22 @@
 // An event in words.
-ghost use Rattle.std.specs.Prelude.{◌≡◌, ◌/◌, ◌%◌, ◌^◌};
-ghost use Rattle.ledger.specs.Words.{kind_in, address_in, value_in};
+ghost use Rattle.std.specs.Prelude.{◌≡◌};
 ghost use Rattle.text.specs.Puts.{Puts};
 ghost use Rattle.sayings.specs.Sayings.{last_address, end_said, happened, event_said};
 
 use crate::times::instant;
+use ledger::event_word::{address_in, kind_in, value_in};
 use text::{say, say_either};
 
+// The kinds of an event.
 const BYTE: u64 = 1;
 
 const COMPLETED: u64 = 2;
-
-fn kind_in(word: u64) -> u64
-    ensures { result ≡ kind_in word }
-{
-    word / 0x1_0000_0000
-}
-
-fn address_in(word: u64) -> u64
-    ensures { result ≡ address_in word }
-{
-    word / 0x1_0000 % 0x1_0000
-}
-
-fn value_in(word: u64) -> u64
-    ensures { result ≡ value_in word }
-{
-    word % 0x1_0000
-}
 
 // The last address of the range of a pulse that has ended.
 fn last_address(word: u64) -> u64
     ensures { result ≡ last_address word }
 {
-    let end = word / 0x1_0000 % 0x1_0000 + word % 0x1_0000;
-    if end == 0 { 0 } else { end - 1 }
+    (address_in(word) + value_in(word)).saturating_sub(1)
 }
 
 fn ended(out: &mut [u8], at: usize, word: u64) -> usize
@@ -54,14 +36,15 @@ fn put_happened(out: &mut [u8], at: usize, word: u64) -> usize
     ensures { Puts (happened word) at out.old out.new result }
 {
     if kind_in(word) == BYTE {
-        return say(
+        say(
             out,
             at,
             b": byte $ becomes &\n",
             &[address_in(word), value_in(word)],
-        );
+        )
+    } else {
+        ended(out, at, word)
     }
-    ended(out, at, word)
 }
 
 // An event with its time.

@@ -11,8 +11,7 @@ use text::say;
 fn microsecond_in(fraction: u64) -> u64
     ensures { result ≡ microsecond_in fraction }
 {
-    let n = fraction / MICROSECOND;
-    if n < 999999 { n } else { 999999 }
+    (fraction / MICROSECOND).min(999999)
 }
 
 fn put_fraction(out: &mut [u8], at: usize, seconds: u64, fraction: u64) -> usize
@@ -34,7 +33,8 @@ pub fn instant(out: &mut [u8], at: usize, seconds: u64, fraction: u64) -> usize
 {
     let end = say(out, at, b"%", &[seconds]);
     if fraction == 0 {
-        return end;
+        end
+    } else {
+        put_fraction(out, end, seconds, fraction)
     }
-    put_fraction(out, end, seconds, fraction)
 }

@@ -20,7 +20,7 @@ use voices::call_said;
 pub struct Served {
     pub course: Course,
     pub next: usize,
-    pub complaint: Complaint,
+    pub complaint: Option<Complaint>,
     pub end: usize,
 }
 
@@ -40,6 +40,7 @@ fn time_at(calls: &[u64], i: usize) -> Time
 }
 
 // The calls from one up to another were made and said nothing.
+#[tactic(auto, unfolding(crate::specs::Noting::passed))]
 fn passed(course: Course, calls: &[u64], from: usize, to: usize) -> Course
     requires { (from ≤ to) × (3 * to ≤ length calls.now) }
     ensures { result ≡ passed from to calls.now course }
@@ -48,8 +49,12 @@ fn passed(course: Course, calls: &[u64], from: usize, to: usize) -> Course
         return course;
     }
     let last = to - 1;
-    let tally = course.tally;
-    with_calls(course, (to - from) as u64, time_at(calls, last), tally)
+    with_calls(
+        course,
+        (to - from) as u64,
+        time_at(calls, last),
+        course.tally,
+    )
 }
 
 // A call was made, and `next` is the first that is not done.
@@ -66,8 +71,7 @@ fn made(
 ) -> Served
     ensures { Notes (made manner line (record { request = request; time = time })) course (record { done = next; last = Ok answer }) events.now out.old out.new result }
 {
-    let tally = course.tally;
-    let counted = tallied(tally, events, answer.count);
+    let counted = tallied(course.tally, events, answer.count);
     let end = call_said(
         out,
         manner.events,
@@ -81,7 +85,7 @@ fn made(
     Served {
         course: with_calls(course, 1, time, counted),
         next,
-        complaint: Complaint::Nothing,
+        complaint: None,
         end,
     }
 }
@@ -107,7 +111,7 @@ fn noted(
         Err(refusal) => Served {
             course: after_refusal(course, manner.go_on),
             next,
-            complaint: Complaint::Refused(line, u32::from(refusal)),
+            complaint: Some(Complaint::Refused(line, u32::from(refusal))),
             end: 0,
         },
     }

@@ -8,11 +8,11 @@ use grammar::Line;
 use voices::{Seeing, look};
 
 fn nothing_due(course: Course) -> Seeing
-    ensures { result ≡ record { course = course; complaint = Complaint.Nothing; end = 0 } }
+    ensures { result ≡ record { course = course; complaint = None; end = 0 } }
 {
     Seeing {
         course,
-        complaint: Complaint::Nothing,
+        complaint: None,
         end: 0,
     }
 }
@@ -41,7 +41,7 @@ pub fn do_due(
         }
         Line::Wrong(fault) => Seeing {
             course: after_left_out(course, manner.go_on),
-            complaint: Complaint::Wrong(number, fault),
+            complaint: Some(Complaint::Wrong(number, fault)),
             end: 0,
         },
     }

@@ -22,7 +22,7 @@ mod waiting;
 pub struct Stepped {
     pub course: Course,
     pub place: Place,
-    pub complaint: Complaint,
+    pub complaint: Option<Complaint>,
     pub end: usize,
 }
 
@@ -52,7 +52,7 @@ pub fn step(
     Stepped {
         course,
         place: read_lines(place, piece, line, calls, numbers),
-        complaint: Complaint::Nothing,
+        complaint: None,
         end: 0,
     }
 }

@@ -14,9 +14,10 @@ fn put_left_out(out: &mut [u8], at: usize, lines: u64) -> usize
     ensures { Puts (left_out_line lines) at out.old out.new result }
 {
     if lines == 0 {
-        return at;
+        at
+    } else {
+        say(out, at, b"lines left out: %\n", &[lines])
     }
-    say(out, at, b"lines left out: %\n", &[lines])
 }
 
 // The pulses of a block.
@@ -24,19 +25,21 @@ fn put_pulses_in(out: &mut [u8], at: usize, tally: Tally, block: usize) -> usize
     requires { block < blocks }
     ensures { Puts (pulses_in tally block) at out.old out.new result }
 {
-    let completed = tally.completed;
-    let interrupted = tally.interrupted;
-    pulses(out, at, block as u64, completed[block], interrupted[block])
+    pulses(
+        out,
+        at,
+        block as u64,
+        tally.completed[block],
+        tally.interrupted[block],
+    )
 }
 
 fn put_pulses(out: &mut [u8], at: usize, tally: Tally) -> usize
     ensures { Puts (lines (pulses_in tally) 0 blocks) at out.old out.new result }
 {
     let mut end = at;
-    let mut block: usize = 0;
-    while block < BLOCKS {
+    for block in 0..BLOCKS {
         end = put_pulses_in(out, end, tally, block);
-        block += 1;
     }
     end
 }
@@ -46,6 +49,5 @@ pub fn put_counts(out: &mut [u8], at: usize, counts: Counts) -> usize
 {
     let called = calls(out, at, counts.made, counts.refused);
     let left = put_left_out(out, called, counts.left_out);
-    let tally = counts.tally;
-    put_pulses(out, left, tally)
+    put_pulses(out, left, counts.tally)
 }

@@ -15,12 +15,7 @@ use verdict::legible::legible_pages;
 fn lies(judged: Judged) -> bool
     ensures { result ≡ Summary·lies judged }
 {
-    let first = judged.first;
-    let pages = judged.pages;
-    if first <= PAGES {
-        return pages <= PAGES - first;
-    }
-    false
+    judged.first <= PAGES && judged.pages <= PAGES - judged.first
 }
 
 // The first and the last address of the judged pages.
@@ -44,21 +39,22 @@ fn put_only(out: &mut [u8], at: usize, judged: Judged) -> usize
 {
     let pages = judged.pages;
     if (pages == PAGES) | (pages == 0) | !lies(judged) {
-        return at;
+        at
+    } else {
+        put_addresses(out, at, judged)
     }
-    put_addresses(out, at, judged)
 }
 
 // How many of the judged pages are legible. Where they do not lie in the flash all of them count, so that nothing is called blank unseen.
+#[tactic(auto, unfolding(crate::specs::Summary::legible_among))]
 pub fn legible_among(image: &[u8; FLASH_SIZE], judged: Judged) -> usize
     ensures { result ≡ legible_among image.now judged }
 {
-    let first = judged.first;
-    let pages = judged.pages;
     if lies(judged) {
-        return legible_pages(image, first, pages);
+        legible_pages(image, judged.first, judged.pages)
+    } else {
+        judged.pages
     }
-    pages
 }
 
 pub fn put_judged(out: &mut [u8], at: usize, image: &[u8; FLASH_SIZE], judged: Judged) -> usize

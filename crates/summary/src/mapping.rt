@@ -15,25 +15,28 @@ fn put_row(out: &mut [u8], at: usize, marks: &[u8; PAGES], row: usize) -> usize
     requires { row < map_rows }
     ensures { Puts (map_row marks.now row) at out.old out.new result }
 {
-    let all = &marks[..];
     let from = row * ROW;
-    let to = from + ROW;
-    fill(out, at, b"$ @\n", &all[from..to], &[(from * PAGE) as u64])
+    fill(
+        out,
+        at,
+        b"$ @\n",
+        &marks[from..from + ROW],
+        &[(from * PAGE) as u64],
+    )
 }
 
 fn put_rows(out: &mut [u8], at: usize, marks: &[u8; PAGES]) -> usize
     ensures { Puts (lines (map_row marks.now) 0 map_rows) at out.old out.new result }
 {
     let mut end = at;
-    let mut row: usize = 0;
-    while row < ROWS {
+    for row in 0..ROWS {
         end = put_row(out, end, marks, row);
-        row += 1;
     }
     end
 }
 
 // The map, if it is asked for.
+#[tactic(auto, unfolding(crate::specs::Summary::map_text))]
 pub fn put_map(out: &mut [u8], at: usize, map: bool, marks: &[u8; PAGES]) -> usize
     ensures { Puts (map_text map marks.now) at out.old out.new result }
 {
@@ -44,7 +47,8 @@ pub fn put_map(out: &mut [u8], at: usize, map: bool, marks: &[u8; PAGES]) -> usi
             b"map: . blank, + reads FF with charge left, # legible\n",
             &[],
         );
-        return put_rows(out, head, marks);
+        put_rows(out, head, marks)
+    } else {
+        at
     }
-    at
 }

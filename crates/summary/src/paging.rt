@@ -11,14 +11,15 @@ use verdict::blocks::{BLOCKS, block_range};
 use verdict::legible::{legible, legible_in_block};
 
 // The pages of a block.
+#[tactic(auto, using(verdict::proofs::Places::inside), unfolding(crate::specs::Summary::pages_in))]
 fn put_pages_in(out: &mut [u8], at: usize, image: &[u8; FLASH_SIZE], block: usize) -> usize
     requires { block < blocks }
     ensures { Puts (pages_in image.now block) at out.old out.new result }
 {
     let range = block_range(block);
     let found = legible_in_block(image, block);
-    let first = range.first as usize;
-    let all = range.pages as usize;
+    let first = usize::from(range.first);
+    let all = usize::from(range.pages);
     pages(
         out,
         at,
@@ -34,10 +35,8 @@ fn put_blocks(out: &mut [u8], at: usize, image: &[u8; FLASH_SIZE]) -> usize
     ensures { Puts (lines (pages_in image.now) 0 blocks) at out.old out.new result }
 {
     let mut end = at;
-    let mut block: usize = 0;
-    while block < BLOCKS {
+    for block in 0..BLOCKS {
         end = put_pages_in(out, end, image, block);
-        block += 1;
     }
     end
 }
@@ -47,19 +46,18 @@ fn put_if_legible(out: &mut [u8], at: usize, image: &[u8; FLASH_SIZE], page: usi
     ensures { Puts (page_legible image.now page) at out.old out.new result }
 {
     if legible(image, page) {
-        return legible_page(out, at, (page * PAGE) as u64);
+        legible_page(out, at, (page * PAGE) as u64)
+    } else {
+        at
     }
-    at
 }
 
 fn put_legible(out: &mut [u8], at: usize, image: &[u8; FLASH_SIZE]) -> usize
     ensures { Puts (lines (page_legible image.now) 0 Cell·pages) at out.old out.new result }
 {
     let mut end = at;
-    let mut page: usize = 0;
-    while page < PAGES {
+    for page in 0..PAGES {
         end = put_if_legible(out, end, image, page);
-        page += 1;
     }
     end
 }

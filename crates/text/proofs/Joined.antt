@@ -1,13 +1,16 @@
 -- Texts that are put one after the other are one text that is put: nothing, a byte, and two texts side by side. What is cut off from
 -- the first lies past the slice's end, so the second changes nothing there. Assumes nothing.
 use mathlib.Core.Path.{◌≡◌, refl, sym, ap, ◌∙◌}
-use mathlib.Core.List.{List, [], ◌∷◌, ◌++◌}
-use Prim.Native.Nat.{ℕ, suc, ◌+◌, ◌-◌, ◌≤◌, ◌<◌}
-use native.Mathlib.Nat.{add-zero, min-eq_left}
+use mathlib.Core.List.{List, [], ◌∷◌, ◌++◌, append_assoc}
+use Prim.Native.Nat.{ℕ, suc, min, ◌+◌, ◌-◌, ◌≤◌, ◌<◌}
+use native.Mathlib.Nat.{add-zero, min_comm, min-eq_left}
 use native.Mathlib.Omega.{arith}
 use native.Mathlib.Decide.{dec_le}
-use lib.ListN.{length, set, length-append, length-take, length-set}
-use lib.Seq.{sets, length-sets, set_out, take-nil, take_all}
+use lib.ListN.{length, take, drop, set, length-append, length-take, length-set}
+use lib.Seq.{sets, length-sets, set_out, take-nil, take_all, drop-drop}
+use borrow.Rule.Slice.PartMut.{put_mid}
+use Rattle.std.proofs.lemmas.List.{take_min}
+use Rattle.std.proofs.lemmas.List.Edits.{sets-eq}
 use Rattle.text.specs.Puts.{fitting, Ends, Puts}
 
 -- ---- runs of stores
@@ -60,10 +63,26 @@ puts-byte b at out h = record {
   ends = record { onward = omega arith; within = omega arith };
 }
 
-pub puts-no-byte : (b at : ℕ) (out : List ℕ) → length out ≤ at → Puts (b ∷ []) at out out at
-puts-no-byte b at out h =
+-- past the slice's end all is cut off
+pub puts-cut : (text : List ℕ) (at : ℕ) (out : List ℕ) → length out ≤ at → Puts text at out out at
+puts-cut text at out h =
     let none : length out - at ≡ 0 = omega arith in
     record { left_is = rw none; end_is = rw (none, add-zero); ends = ends_same at out }
+
+-- as many bytes are copied as have room
+pub puts_copied : (text out ys : List ℕ) (at n k : ℕ) → at < length out → n ≡ min (length text) (length out - at) → k ≡ n → ys ≡ take k text
+    → Puts text at out (put_mid at k out ys) (at + n)
+puts_copied text out ys at n k room e f g = record {
+  left_is = rw (fits, g, f) (sym (sets-eq (take n text) out at (omega (arith, long)) ∙ rw (long, ← drop-drop n at out, append_assoc)));
+  end_is = rw (fits, long);
+  ends = record { onward = omega arith; within = omega arith };
+}
+  where
+    fits : fitting out at text ≡ take n text
+    fits = rw (e, min_comm (length text) (length out - at)) (sym (take_min (length out - at) text))
+
+    long : length (take n text) ≡ n
+    long = rw length-take (omega arith)
 
 pub puts-append : (xs ys : List ℕ) (at mid end : ℕ) (out half left : List ℕ)
     → Puts xs at out half mid → Puts ys mid half left end → Puts (xs ++ ys) at out left end

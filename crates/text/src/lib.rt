@@ -1,5 +1,6 @@
 // Text put together in a lent slice, from templates with marks for numbers and a word. What does not fit is cut off at the
-// slice's end, so no function asks for room.
+// slice's end, so no function asks for room. `write!` would promise less: std's clauses on it speak of an `Ok` only, and none says when one comes;
+// it also wants text, and a word of a history may be any bytes.
 #![tactic(auto)]
 
 ghost use Rattle.std.specs.Prelude.{◌≡◌, cond, [], get_or};
@@ -28,7 +29,7 @@ pub enum Mark {
 fn number_at(numbers: &[u64], i: usize) -> u64
     ensures { result ≡ get_or numbers.now i 0 }
 {
-    if i < numbers.len() { numbers[i] } else { 0 }
+    numbers.get(i).copied().unwrap_or(0)
 }
 
 // Puts a template with its marks filled at a place, and answers where it ends.
@@ -37,12 +38,9 @@ pub fn fill(out: &mut [u8], at: usize, template: &[u8], word: &[u8], numbers: &[
 {
     let mut end = at;
     let mut used: usize = 0;
-    let mut i: usize = 0;
-    while i < template.len() {
-        let b = template[i];
-        end = put_piece(out, end, b, word, number_at(numbers, used));
-        used += taken(mark_of(b));
-        i += 1;
+    for b in template {
+        end = put_piece(out, end, *b, word, number_at(numbers, used));
+        used += taken(mark_of(*b));
     }
     end
 }
@@ -72,8 +70,6 @@ pub fn say_either(
 ) -> usize
     ensures { Puts (filled (cond first one.now other.now) [] numbers.now) at out.old out.new result }
 {
-    if first {
-        return say(out, at, one, numbers);
-    }
-    say(out, at, other, numbers)
+    let template = if first { one } else { other };
+    say(out, at, template, numbers)
 }

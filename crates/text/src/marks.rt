@@ -35,13 +35,8 @@ pub fn taken(mark: Mark) -> usize
     ensures { result ≡ Text·taken mark }
 {
     match mark {
-        Mark::Plain => 0,
-        Mark::Word => 0,
-        Mark::Number {
-            padded: _,
-            hex: _,
-            places: _,
-        } => 1,
+        Mark::Plain | Mark::Word => 0,
+        Mark::Number { .. } => 1,
     }
 }
 

@@ -15,15 +15,15 @@ pub fn put_byte(out: &mut [u8], at: usize, b: u8) -> usize
     at
 }
 
+// Puts what of a text fits, and answers where it ends.
 pub fn put_text(out: &mut [u8], at: usize, text: &[u8]) -> usize
     ensures { Puts text.now at out.old out.new result }
 {
-    let mut end = at;
-    let mut i: usize = 0;
-    while i < text.len() {
-        end = put_byte(out, end, text[i]);
-        i += 1;
+    if out.len() <= at {
+        return at;
     }
+    let end = at + text.len().min(out.len() - at);
+    out[at..end].copy_from_slice(&text[..end - at]);
     end
 }
 

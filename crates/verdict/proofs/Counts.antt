@@ -2,15 +2,20 @@
 -- array's, since the blocks stand one after the other. Assumes nothing.
 use mathlib.Core.Path.{◌≡◌, refl, sym, ap, ◌∙◌}
 use mathlib.Core.List.{List, [], ◌∷◌}
-use mathlib.Core.Bool.{cond, not}
-use Prim.Native.Nat.{ℕ, zero, suc, ◌+◌, ◌*◌, ◌/◌}
+use mathlib.Core.Bool.{Bool, true, false, cond, not}
+use Prim.Native.Nat.{ℕ, zero, suc, ◌+◌, ◌*◌, ◌/◌, ◌≤◌}
+use lib.Dec.{eqb}
+use lib.ListN.{length, take, drop}
+use lib.Seq.{drop-cons}
+use Rattle.std.specs.List.{list_all, filter, range_with_len}
 use native.Mathlib.Nat.{add-zero, zero-add}
+use native.Mathlib.Numerals.{add-one}
 use native.Mathlib.Omega.{arith}
 use Rattle.time.specs.declared.Time.{Time}
 use Rattle.control.specs.Blocks.{erase_range, InOrder}
 use Rattle.control.proofs.Tiling.{blocks-in-order}
 use Rattle.flash.specs.Chip.{Chip}
-use Rattle.flash.specs.Looking.{image_at, blank_at}
+use Rattle.flash.specs.Looking.{image_at, all_blank, blank_at}
 use Rattle.verdict.specs.Legible.{legible, legible_in, legible_over}
 
 -- ---- the image at a time
@@ -35,9 +40,37 @@ legible-more image p (suc n) m =
     let r = legible-more image (suc p) n m in
     rw (e, d, r) (omega arith)
 
-pub legible-turn : (image : List ℕ) (p n : ℕ) → legible_in image p (n + 1) ≡ legible_in image p n + cond (legible image (p + n)) 1 0
+-- ---- as lists
+
+-- n bytes from address a on
+all-blank-list : (n a : ℕ) (image : List ℕ) → a + n ≤ length image → all_blank n a image ≡ list_all (λ b. eqb b 255) (take n (drop a image))
+unfolding all_blank
+all-blank-list zero a image h = refl
+all-blank-list (suc n) a image h = rw (drop-cons image a 0 (omega arith), all-blank-list n (suc a) image (omega arith))
+
+pub legible-list : (image : List ℕ) (p n : ℕ) → n ≡ 128 → (p * 128) + 128 ≤ length image
+    → legible image p ≡ not (list_all (λ b. eqb b 255) (take n (drop (p * 128) image)))
+unfolding legible
+legible-list image p n e h = rw (e, all-blank-list 128 (p * 128) image h)
+
+pub legible-count : (image : List ℕ) (p n : ℕ) → legible_in image p n ≡ length (filter (legible image) (range_with_len p n))
 unfolding legible_in
-legible-turn image p n = legible-more image p n 1 ∙ rw add-zero
+legible-count image p zero = refl
+legible-count image p (suc n) = by (legible-count image (suc p) n) (legible image p)
+  where
+    by : legible_in image (suc p) n ≡ length (filter (legible image) (range_with_len (suc p) n)) → (t : Bool)
+        → cond t 1 0 + legible_in image (suc p) n ≡ length (cond t (p ∷ filter (legible image) (range_with_len (p + 1) n)) (filter (legible image) (range_with_len (p + 1) n)))
+    by e true = rw (add-one, e) (omega arith)
+    by e false = rw (add-one, e) (omega arith)
+
+pub legible-most : (image : List ℕ) (p n : ℕ) → legible_in image p n ≤ n
+unfolding legible_in
+legible-most image p zero = omega arith
+legible-most image p (suc n) = by (legible-most image (suc p) n) (legible image p)
+  where
+    by : legible_in image (suc p) n ≤ n → (t : Bool) → cond t 1 0 + legible_in image (suc p) n ≤ suc n
+    by h true = omega arith
+    by h false = omega arith
 
 -- ---- all blocks
 

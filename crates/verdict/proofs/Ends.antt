@@ -3,13 +3,13 @@
 use mathlib.Core.Path.{◌≡◌, refl, sym, ap, ◌∙◌}
 use mathlib.Core.Bool.{cond}
 use mathlib.Core.List.{List, [], ◌∷◌, ◌++◌}
-use Prim.Native.Nat.{ℕ, suc, ◌+◌, ◌/◌, ◌^◌, ◌<◌, ◌≤◌, min}
+use Prim.Native.Nat.{ℕ, suc, ◌+◌, ◌/◌, ◌^◌, ◌<◌, ◌≤◌}
 use native.Mathlib.Nat.{zero-add}
 use native.Mathlib.Omega.{arith}
 use borrow.Author.Tests.{eq-eqb, ne_eqb}
-use lib.ListN.{length, set, take, length-set}
-use lib.Seq.{get_or-set_same, get_or-set_other, ext_get_or, take_all}
-use native.Mathlib.Decide.{ℕ_discrete, dec_lt}
+use lib.ListN.{length, set, length-set}
+use lib.Seq.{get_or-set_same, get_or-set_other, ext_get_or}
+use native.Mathlib.Decide.{ℕ_discrete}
 use Rattle.cell.specs.Cell.{at, mapi}
 use Rattle.cell.proofs.Maps.{length-mapi, get_or-mapi}
 use Rattle.ledger.specs.Words.{kind_in, address_in}
@@ -84,11 +84,4 @@ module _ (kind w : ℕ) (counts : List ℕ) (same : kind_in w ≡ kind) where
       each k (yes q) = rw (q, get_or-set_same counts b v 0 inside, eq-eqb _ _ same, eq-eqb _ b (sym here)) e
       each k (no d) = rw (get_or-set_other counts b k v 0 d, eq-eqb _ _ same, ne_eqb _ k (λ q. d (sym (here ∙ q)))) (omega arith)
 
--- ---- the first words
-
-pub take-fewer : (n : ℕ) (words : List ℕ) → take (min n (length words)) words ≡ take n words
-take-fewer n words = by (dec_lt n (length words))
-  where
-    by : Dec (n < length words) → take (min n (length words)) words ≡ take n words
-    by (yes h) = let e : min n (length words) ≡ n = omega arith in rw e
-    by (no h) = take_all (min n (length words)) words (omega arith) ∙ sym (take_all n words (omega arith))
+pub ruleset one_word = (other-kind, in_block, no_block)

@@ -1,13 +1,18 @@
 -- Blocks and pages by their places: one block after the other is tried, each lies in the array, and a page of the array lies in the block
 -- that is told and in no other. A stretch of addresses touches a page exactly where one of them lies in it. Assumes nothing.
-use mathlib.Core.Path.{◌≡◌, refl, sym}
+use mathlib.Core.Path.{◌≡◌, refl, sym, ap, ◌∙◌}
 use mathlib.Core.Bool.{Bool, true, false, cond, ◌&&◌, true≢false}
 use mathlib.Core.List.{List, [], ◌∷◌}
 use Prim.Native.Nat.{ℕ, zero, suc, ◌+◌, ◌-◌, ◌*◌, ◌/◌, ◌^◌, ◌<◌, ◌≤◌}
+use native.Mathlib.Nat.{add-zero}
+use native.Mathlib.Numerals.{add-one}
 use native.Mathlib.Omega.{arith}
 use native.Mathlib.Decide.{ℕ_discrete, dec_lt}
 use borrow.Author.Tests.{ltb-true, ltb-false, leb-true, lt-ltb, le-ltb, le-leb}
 use lib.Dec.{leb, ltb}
+use Rattle.std.specs.Prelude.{Option, None, Some}
+use Rattle.std.specs.Option.{unwrap_or, option_map}
+use Rattle.std.specs.List.{find, range_with_len}
 use Rattle.control.specs.declared.Range.{Range}
 use Rattle.control.specs.Blocks.{erase_range, InOrder}
 use Rattle.control.proofs.Tiling.{blocks-in-order}
@@ -32,12 +37,24 @@ from-range r p e = by (leb r.first p) (ltb p (r.first + r.pages)) refl refl e
 
 -- ---- the block of a page
 
-pub block-turn : (b p : ℕ) → b < 6 → block_from (6 - b) b p ≡ cond (in_range (block_range b) p) b (block_from (6 - (b + 1)) (b + 1) p)
-unfolding block_from
-block-turn b p h =
-    let e : 6 - b ≡ suc (6 - (b + 1)) = omega arith in
-    let d : b + 1 ≡ suc b = omega arith in
-    rw (e, d)
+-- what a search of the blocks in turn gives
+pub block-first : (p : ℕ) (r : Option ℕ) → option_map (λ x. x) r ≡ find (λ b. in_range (block_range b) p) (range_with_len 0 6)
+    → unwrap_or r 6 ≡ block_of p
+unfolding block_of block_from
+block-first p r e = same r ∙ ap (λ (o : Option ℕ). unwrap_or o 6) e ∙ go 6 0
+  where
+    same : (r : Option ℕ) → unwrap_or r 6 ≡ unwrap_or (option_map (λ x. x) r) 6
+    same None = refl
+    same (Some x) = refl
+
+    go : (n b : ℕ) → unwrap_or (find (λ b. in_range (block_range b) p) (range_with_len b n)) (b + n) ≡ block_from n b p
+    go zero b = add-zero b
+    go (suc n) b = by (go n (suc b)) (in_range (block_range b) p)
+      where
+        by : unwrap_or (find (λ b. in_range (block_range b) p) (range_with_len (suc b) n)) (suc b + n) ≡ block_from n (suc b) p → (t : Bool)
+            → unwrap_or (cond t (Some b) (find (λ b. in_range (block_range b) p) (range_with_len (b + 1) n))) (b + suc n) ≡ cond t b (block_from n (suc b) p)
+        by later true = refl
+        by later false = let e : b + suc n ≡ suc b + n = omega arith in rw (e, add-one) later
 
 -- a block has pages, and they lie in the array
 pub block_inside : (b : ℕ) → b < 6 → (1 ≤ (block_range b).pages) × ((block_range b).first + (block_range b).pages ≤ 384)
@@ -129,3 +146,5 @@ module _ (from to : ℕ) where
       by : (from / 128 ≤ p) × (p < from / 128 + (to / 128 + 1 - from / 128)) → Dec (p * 128 < from) → (a : ℕ) × (from ≤ a) × (a ≤ to) × (a / 128 ≡ p)
       by r (yes k) = (from, omega arith, omega arith, omega arith)
       by r (no k) = (p * 128, omega arith, omega arith, omega arith)
+
+pub ruleset inside = (touched-inside, block_inside)

@@ -24,34 +24,28 @@ pub fn block_range(block: usize) -> Range
 pub fn in_range(range: Range, page: usize) -> bool
     ensures { result ≡ in_range range page }
 {
-    let first = range.first as usize;
-    let end = first + range.pages as usize;
-    (first <= page) & (page < end)
+    let first = usize::from(range.first);
+    (first..first + usize::from(range.pages)).contains(&page)
 }
 
 // The block that a page lies in, 6 for a page past the array.
 pub fn block_of(page: usize) -> usize
     ensures { result ≡ block_of page }
 {
-    let mut block: usize = 0;
-    while block < BLOCKS {
-        let range = block_range(block);
-        if in_range(range, page) {
-            return block;
-        }
-        block += 1;
-    }
-    BLOCKS
+    (0..BLOCKS)
+        .find(|block| in_range(block_range(*block), page))
+        .unwrap_or(BLOCKS)
 }
 
 // The pages in which the addresses from one to another lie, both included.
+#[tactic(auto, unfolding(crate::specs::Blocks::pages_touched))]
 pub fn pages_touched(from: u16, to: u16) -> Range
     requires { from ≤ to }
     ensures { result ≡ pages_touched from to }
 {
     let first = from / PAGE_BYTES;
     Range {
-        first: first,
+        first,
         pages: to / PAGE_BYTES + 1 - first,
     }
 }

@@ -13,14 +13,7 @@ pub fn legible(image: &[u8], page: usize) -> bool
     ensures { result ≡ legible image.now page }
 {
     let start = page * PAGE;
-    let mut i: usize = 0;
-    while i < PAGE {
-        if image[start + i] != 0xFF {
-            return true;
-        }
-        i += 1;
-    }
-    false
+    !image[start..start + PAGE].iter().all(|b| *b == 0xFF)
 }
 
 // How many of so many pages are legible.
@@ -28,31 +21,27 @@ pub fn legible_pages(image: &[u8], first: usize, pages: usize) -> usize
     requires { (first + pages) * page_bytes ≤ length image.now }
     ensures { (result ≡ legible_in image.now first pages) × (result ≤ pages) }
 {
-    let mut found: usize = 0;
-    let mut i: usize = 0;
-    while i < pages {
-        if legible(image, first + i) {
-            found += 1;
-        }
-        i += 1;
-    }
-    found
+    (first..first + pages)
+        .filter(|page| legible(image, *page))
+        .count()
 }
 
 // How many pages of a block are legible.
+#[tactic(auto, using(crate::proofs::Places::inside))]
 pub fn legible_in_block(image: &[u8], block: usize) -> usize
     requires { (length image.now ≡ array_bytes) × (block < blocks) }
     ensures { (result ≡ legible_in image.now (block_range block).first (block_range block).pages) × (result ≤ (block_range block).pages) }
 {
     let range = block_range(block);
-    legible_pages(image, range.first as usize, range.pages as usize)
+    legible_pages(image, usize::from(range.first), usize::from(range.pages))
 }
 
 // How many of the pages are legible in which the addresses from one to another lie, both included.
+#[tactic(auto, using(crate::proofs::Places::inside))]
 pub fn legible_between(image: &[u8], from: u16, to: u16) -> usize
     requires { (length image.now ≡ array_bytes) × (from ≤ to) × (to < array_bytes) }
     ensures { (result ≡ legible_in image.now (pages_touched from to).first (pages_touched from to).pages) × (result ≤ (pages_touched from to).pages) }
 {
     let range = pages_touched(from, to);
-    legible_pages(image, range.first as usize, range.pages as usize)
+    legible_pages(image, usize::from(range.first), usize::from(range.pages))
 }

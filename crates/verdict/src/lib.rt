@@ -1,6 +1,8 @@
 // What the desk counts: legible pages of an image, by block, and pulses that ended in each block.
 #![tactic(auto)]
 
+use crate::blocks::BLOCKS;
+
 pub mod blocks;
 pub mod legible;
 pub mod pulses;
@@ -8,6 +10,6 @@ pub mod pulses;
 // How many pulses ended in each block: completed, and interrupted. A count stays at the largest number.
 #[derive(Clone, Copy)]
 pub struct Tally {
-    pub completed: [u64; 6],
-    pub interrupted: [u64; 6],
+    pub completed: [u64; BLOCKS],
+    pub interrupted: [u64; BLOCKS],
 }

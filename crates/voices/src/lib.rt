@@ -19,7 +19,7 @@ mod looks;
 #[derive(Clone, Copy)]
 pub struct Seeing {
     pub course: Course,
-    pub complaint: Complaint,
+    pub complaint: Option<Complaint>,
     pub end: usize,
 }
 
@@ -28,10 +28,8 @@ fn put_events(out: &mut [u8], time: Time, words: &[u64]) -> usize
     ensures { Puts (events_said time words.now) 0 out.old out.new result }
 {
     let mut end: usize = 0;
-    let mut i: usize = 0;
-    while i < words.len() {
-        end = event(out, end, time.0, time.1, words[i]);
-        i += 1;
+    for word in words {
+        end = event(out, end, time.0, time.1, *word);
     }
     end
 }
@@ -40,10 +38,7 @@ fn put_events(out: &mut [u8], time: Time, words: &[u64]) -> usize
 fn put_first_events(out: &mut [u8], time: Time, words: &[u64], count: usize) -> usize
     ensures { Puts (events_said time (take count words.now)) 0 out.old out.new result }
 {
-    if count < words.len() {
-        return put_events(out, time, &words[..count]);
-    }
-    put_events(out, time, words)
+    put_events(out, time, &words[..count.min(words.len())])
 }
 
 // What a read answered.
@@ -51,14 +46,14 @@ fn put_value(out: &mut [u8], at: usize, line: u64, request: Request, value: u16)
     ensures { Puts (value_said line request value) at out.old out.new result }
 {
     match request {
-        Request::WriteRegister(_, _) => at,
-        Request::Write8(_, _) => at,
         Request::Read8(a) => answered(out, at, line, a as u64, value as u64, false),
         Request::Read16(a) => answered(out, at, line, a as u64, value as u64, true),
-        Request::Protect => at,
-        Request::Reset => at,
-        Request::PowerOff => at,
-        Request::Environment(_, _, _) => at,
+        Request::WriteRegister(_, _)
+        | Request::Write8(_, _)
+        | Request::Protect
+        | Request::Reset
+        | Request::PowerOff
+        | Request::Environment(_, _, _) => at,
     }
 }
 
@@ -77,9 +72,10 @@ pub fn call_said(
 {
     if events_asked {
         let end = put_first_events(out, time, words, count);
-        return put_value(out, end, line, request, value);
+        put_value(out, end, line, request, value)
+    } else {
+        0
     }
-    0
 }
 
 // A look: what is seen is said. One that is refused is left out.
@@ -99,12 +95,12 @@ pub fn look(
     match look_at(record, array, charges, line, time, looking, out) {
         Ok(end) => Seeing {
             course,
-            complaint: Complaint::Nothing,
+            complaint: None,
             end,
         },
         Err(refusal) => Seeing {
             course: after_left_out(course, manner.go_on),
-            complaint: Complaint::Unseen(line, u32::from(refusal)),
+            complaint: Some(Complaint::Unseen(line, u32::from(refusal))),
             end: 0,
         },
     }

@@ -1,10 +1,10 @@
 -- `summary::counting::put_counts` meets its contract: three texts, one after the other.
 -- Assumes nothing.
+use borrow.Author.Rules.{rules}
 use Rattle.text.proofs.Joined.{puts-append}
 use Rattle.summary.specs.Summary.{counts_text}
 use Rattle.summary.proofs.counting.put_counts.Goals as goal
 
 pub returns : goal.returns
 unfolding counts_text
-returns c =
-    puts-append _ _ _ _ _ _ _ _ (puts-append _ _ _ _ _ _ _ _ c.calls-called.ensures c.put_left_out-left.ensures) c.put_pulses.ensures
+returns c = search (rules, puts-append)

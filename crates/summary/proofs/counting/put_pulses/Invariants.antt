@@ -1,12 +1,8 @@
 -- `summary::counting::put_pulses` meets its contract. The loop's invariant: the lines of the blocks passed are put.
 -- Assumes nothing.
-use Prim.Native.Nat.{◌-◌}
-use Rattle.summary.specs.Summary.{pulses_in}
-use Rattle.summary.proofs.Lines.{Lined}
+use Rattle.text.specs.Puts.{Puts}
+use Rattle.summary.specs.Summary.{lines, pulses_in}
 use Rattle.summary.proofs.counting.put_pulses.Given as goal
 
 abbrev pub invariant-loop-block : goal.invariant-loop-block
-invariant-loop-block l = Lined (pulses_in l.tally) 6 l.at l.initial.out l.out l.end l.block
-
-abbrev pub decreases-loop-block : goal.decreases-loop-block
-decreases-loop-block l = 6 - l.block
+invariant-loop-block l = Puts (lines (pulses_in l.tally) 0 l.block) l.at l.initial.out l.out l.end

@@ -1,47 +1,22 @@
--- `verdict::legible::legible` meets its contract. The loop's invariant: the page is blank if the bytes not yet passed are.
+-- `verdict::legible::legible` meets its contract: a page is blank if all bytes of it read FF.
 -- Assumes nothing.
-use mathlib.Core.Path.{◌≡◌, sym, ◌∙◌}
-use Prim.Native.Nat.{◌-◌}
-use native.Mathlib.Nat.{add-zero}
+use mathlib.Core.Path.{◌≡◌, sym}
+use Prim.Native.Nat.{◌+◌, ◌-◌, ◌*◌}
+use lib.Dec.{eqb}
+use lib.ListN.{take, drop}
 use native.Mathlib.Omega.{arith}
-use borrow.Author.Tests.{eq-eqb, ne_eqb}
-use Rattle.flash.proofs.Look.{blank_turn}
-use Rattle.flash.specs.Looking.{all_blank}
-use Rattle.verdict.specs.Legible.{legible}
+use borrow.Author.Rules.{rules}
+use borrow.Author.Tests.{tests}
+use Rattle.std.specs.List.{list_all}
+use Rattle.std.proofs.lemmas.Iterator.{YieldsList-from_slice}
+use Rattle.std.proofs.lemmas.Iterator.Search.{all_from_yields_List}
+use Rattle.verdict.proofs.Counts.{legible-list}
 use Rattle.verdict.proofs.legible.legible.Goals as goal
 
-pub overflow_mul-start : goal.overflow_mul-start
-overflow_mul-start c = omega arith
-
-pub loop-i-init : goal.loop-i-init
-unfolding legible
-loop-i-init c = (omega arith, rw add-zero)
-
-pub overflow_add-start : goal.overflow_add-start
-overflow_add-start c = omega arith
-
-pub bounds-image-start : goal.bounds-image-start
-bounds-image-start c = omega arith
-
-pub returns-then-image-start : goal.returns-then-image-start
-returns-then-image-start c =
-    let l = c.loop-i in
-    sym (l.invariant.1 ∙ rw (blank_turn _ l.i _ (omega arith), ne_eqb _ 255 c.if-image-start.true))
-
-pub overflow_add-i : goal.overflow_add-i
-overflow_add-i c = omega arith
-
-pub loop-i-smaller : goal.loop-i-smaller
-loop-i-smaller c = omega arith
-
-pub loop-i-preserved : goal.loop-i-preserved
-loop-i-preserved c =
-    let l = c.loop-i in
-    (omega arith, l.invariant.1 ∙ rw (blank_turn _ l.i _ (omega arith), eq-eqb _ 255 c.if-image-start.false))
-
 pub returns : goal.returns
-unfolding all_blank
 returns c =
-    let l = c.loop-i in
-    let e : 128 - l.i ≡ 0 = omega arith in
-    sym (l.invariant.1 ∙ rw e)
+    let start = c.args.page * 128 in
+    let page = take (start + 128 - start) (drop start c.args.image.now) in
+    let e : c.all.result ≡ list_all (λ b. eqb b 255) page =
+    all_from_yields_List (λ b. eqb b 255) _ _ c.all.result c.all.ensures.ran (YieldsList-from_slice page cc) (λ x b q k. search (rules, tests)) in
+    rw e (sym (legible-list c.args.image.now c.args.page _ (omega arith) (omega arith)))

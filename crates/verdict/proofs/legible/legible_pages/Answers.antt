@@ -1,43 +1,22 @@
--- `verdict::legible::legible_pages` meets its contract. The loop's invariant: what was found is the number of legible pages among those
--- passed. Assumes nothing.
-use mathlib.Core.Path.{◌≡◌, refl, ◌∙◌}
+-- `verdict::legible::legible_pages` meets its contract: as many pages are counted as are legible.
+-- Assumes nothing.
+use mathlib.Core.Path.{◌≡◌, ◌∙◌, sym}
+use Prim.Native.Nat.{◌+◌}
 use native.Mathlib.Omega.{arith}
-use Rattle.verdict.proofs.Counts.{legible-turn}
-use Rattle.verdict.specs.Legible.{legible_in}
+use borrow.Author.Rules.{rules}
+use borrow.Author.Tests.{tests}
+use Rattle.std.specs.List.{filter, range_with_len}
+use Rattle.std.proofs.lemmas.Iterator.{YieldsList-from_range}
+use Rattle.std.proofs.lemmas.Iterator.Consumers.{count_from_yields_List, YieldsList-from_filter}
+use lib.ListN.{length}
+use Rattle.verdict.specs.Legible.{legible}
+use Rattle.verdict.proofs.Counts.{legible-count, legible-most}
 use Rattle.verdict.proofs.legible.legible_pages.Goals as goal
-use Rattle.verdict.proofs.legible.legible_pages.Goals.{then-legible, else-legible}
-
-pub loop-i-init : goal.loop-i-init
-unfolding legible_in
-loop-i-init c = (omega arith, refl, omega arith)
-
-pub overflow_add-first : goal.overflow_add-first
-overflow_add-first c = omega arith
-
-pub legible-requires : goal.legible-requires
-legible-requires c = omega arith
-
-pub overflow_add-found : goal.overflow_add-found
-overflow_add-found c = omega arith
-
-pub overflow_add-i : goal.overflow_add-i
-overflow_add-i c = omega arith
-
-pub loop-i-smaller : goal.loop-i-smaller
-loop-i-smaller c = omega arith
-
-pub loop-i-preserved : goal.loop-i-preserved
-loop-i-preserved c =
-    let l = c.loop-i in
-    let a = c.args in
-    let t = legible-turn a.image.now a.first l.i in
-    let e = c.legible.ensures in
-    elim c.if-legible.branch [
-      | then-legible w ↦ (omega arith, w.found-is ∙ rw (t, ← e, w.if-legible.true) (omega arith), omega arith)
-      | else-legible w ↦ (omega arith, w.found-is ∙ rw (t, ← e, w.if-legible.false) (omega arith), omega arith)
-    ]
 
 pub returns : goal.returns
 returns c =
-    let e : c.loop-i.i ≡ c.args.pages = omega arith in
-    (rw e at c.loop-i.invariant.1, omega arith)
+    let a = c.args in
+    let e : c.count.result ≡ length (filter (legible a.image.now) (range_with_len a.first a.pages)) =
+    count_from_yields_List _ c.count.result c.count.ensures.ran (YieldsList-from_filter _ (legible a.image.now) (YieldsList-from_range a.first (a.first + a.pages) a.pages (cc) (omega arith)) c.filter.ensures.closure (λ x b q k. search (rules, tests))) in
+    let r = legible-count a.image.now a.first a.pages in
+    (e ∙ sym r, omega (arith, e, r, legible-most a.image.now a.first a.pages))
