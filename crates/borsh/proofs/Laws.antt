@@ -14,7 +14,8 @@ use Rattle.layout.specs.Layout.{word, bytes, flag_byte, flag_of}
 use Rattle.layout.proofs.Widths.{length-bytes, word_bytes, bytes_word, word_small}
 use Rattle.layout.proofs.Accepted.{flag-known}
 use Rattle.std.specs.Prelude.{Option, Some, None}
-use Rattle.borsh.specs.Borsh.{Read, got, refused, next, Borsh, int, only, mapped, enum, bool, ◌then◌, option, write_option, write_all, read_all, array, vec}
+use Rattle.borsh.specs.Borsh.{Read, next, Borsh, int, only, mapped, enum, bool, ◌then◌, option, write_option, write_all, read_all, array, vec}
+use Rattle.std.specs.Prelude.{Ok, Err}
 
 infixr 4 ◌and◌
 -- ---- what a law says
@@ -25,8 +26,8 @@ Bytes xs = (k : ℕ) → at xs k < 256
 
 -- What is written of a good value reads back, with the bytes after it; what is read is good, and writes back the same bytes.
 pub record Lawful {A : Type 0} (Good : A → Type 0) (f : Borsh A) : Type 0 where
-  pub back : (v : A) → Good v → (rest : List ℕ) → f.read (f.write v ++ rest) ≡ got v rest
-  pub exact : (xs : List ℕ) → Bytes xs → (v : A) (rest : List ℕ) → f.read xs ≡ got v rest
+  pub back : (v : A) → Good v → (rest : List ℕ) → f.read (f.write v ++ rest) ≡ Ok (v, rest)
+  pub exact : (xs : List ℕ) → Bytes xs → (v : A) (rest : List ℕ) → f.read xs ≡ Ok (v, rest)
       → (xs ≡ f.write v ++ rest) × (Good v × Bytes rest)
 
 -- what may be good: a number of n bytes, any value, two values
@@ -42,10 +43,10 @@ abbrev pub ◌and◌ : {A B : Type 0} → (A → Type 0) → (B → Type 0) → 
 -- ---- what is read, if anything is
 
 data Reads {A : Type 0} (P : A → List ℕ → Type 0) : Read A → Type 0 where
-  is-got : (v : A) (rest : List ℕ) → P v rest → Reads P (got v rest)
-  is-refused : {n : ℕ} → Reads P (refused n)
+  is-got : (v : A) (rest : List ℕ) → P v rest → Reads P (Ok (v, rest))
+  is-refused : {n : ℕ} → Reads P (Err n)
 
-got-reads : {A : Type 0} {P : A → List ℕ → Type 0} {v : A} {rest : List ℕ} → Reads P (got v rest) → P v rest
+got-reads : {A : Type 0} {P : A → List ℕ → Type 0} {v : A} {rest : List ℕ} → Reads P (Ok (v, rest)) → P v rest
 got-reads (is-got v rest p) = p
 
 next-reads : {A B : Type 0} {P : A → List ℕ → Type 0} {Q : B → List ℕ → Type 0} {k : A → List ℕ → Read B} {r : Read A}
@@ -66,10 +67,10 @@ reads : {A : Type 0} {Good : A → Type 0} {f : Borsh A} → Lawful Good f
 reads {A} {Good} {f} l xs b = by (f.read xs) refl
   where
     by : (r : Read A) → f.read xs ≡ r → Reads (Exact Good f.write xs) r
-    by (got v rest) e = is-got v rest (l.exact xs b v rest e)
-    by (refused n) e = is-refused
+    by (Ok (v, rest)) e = is-got v rest (l.exact xs b v rest e)
+    by (Err n) e = is-refused
 
-lawful : {A : Type 0} {Good : A → Type 0} {f : Borsh A} → ((v : A) → Good v → (rest : List ℕ) → f.read (f.write v ++ rest) ≡ got v rest)
+lawful : {A : Type 0} {Good : A → Type 0} {f : Borsh A} → ((v : A) → Good v → (rest : List ℕ) → f.read (f.write v ++ rest) ≡ Ok (v, rest))
     → ((xs : List ℕ) → Bytes xs → Reads (Exact Good f.write xs) (f.read xs)) → Lawful Good f
 lawful p q = record { back = p; exact = λ xs b v rest e. got-reads (rw e at (q xs b)) }
 
@@ -82,7 +83,7 @@ pub int-lawful : (n : ℕ) → Lawful (Wide n) (int n)
 unfolding int
 int-lawful n = lawful back exact
   where
-    back : (v : ℕ) → Wide n v → (rest : List ℕ) → (int n).read ((int n).write v ++ rest) ≡ got v rest
+    back : (v : ℕ) → Wide n v → (rest : List ℕ) → (int n).read ((int n).write v ++ rest) ≡ Ok (v, rest)
     back v h rest =
         let l : n ≤ length (bytes n v ++ rest) = omega (arith, length-append (bytes n v) rest, length-bytes n v) in
         rw (le-ltb (length (bytes n v ++ rest)) n l, word_bytes n v rest h, drop_at (bytes n v) rest n (length-bytes n v))
@@ -90,7 +91,7 @@ int-lawful n = lawful back exact
     exact : (xs : List ℕ) → Bytes xs → Reads (Exact (Wide n) (bytes n) xs) ((int n).read xs)
     exact xs b = by (ltb (length xs) n) refl
       where
-        by : (s : Bool) → ltb (length xs) n ≡ s → Reads (Exact (Wide n) (bytes n) xs) (cond s (refused 9) (got (word n xs 0) (drop n xs)))
+        by : (s : Bool) → ltb (length xs) n ≡ s → Reads (Exact (Wide n) (bytes n) xs) (cond s (Err 9) (Ok (word n xs 0, drop n xs)))
         by true e = is-refused
         by false e =
             let long : 0 + n ≤ length xs = omega (arith, ltb-false (length xs) n e) in
@@ -113,7 +114,7 @@ module _ {A : Type 0} {Good : A → Type 0} {f : Borsh A} (l : Lawful Good f) wh
       (λ xs b. next-reads (reads l xs b) λ v rest x. by xs v rest x (allowed v) refl)
     where
       by : (xs : List ℕ) (v : A) (rest : List ℕ) → Exact Good f.write xs v rest → (s : Bool) → allowed v ≡ s
-          → Reads (Exact (λ v. Good v × (allowed v ≡ true)) f.write xs) (cond s (got v rest) (refused 10))
+          → Reads (Exact (λ v. Good v × (allowed v ≡ true)) f.write xs) (cond s (Ok (v, rest)) (Err 10))
       by xs v rest x true e = is-got v rest (x.0, ((x.1.0, e), x.1.1))
       by xs v rest x false e = is-refused
 
@@ -168,14 +169,14 @@ pub option-lawful : {A : Type 0} {Good : A → Type 0} {f : Borsh A} → Lawful 
 unfolding option
 option-lawful {A} {Good} {f} l = lawful back (λ xs b. next-reads (reads bool_lawful xs b) (exact xs))
   where
-    back : (v : Option A) → GoodOption Good v → (rest : List ℕ) → (option f).read ((option f).write v ++ rest) ≡ got v rest
+    back : (v : Option A) → GoodOption Good v → (rest : List ℕ) → (option f).read ((option f).write v ++ rest) ≡ Ok (v, rest)
     back None h rest = rw (bool_lawful.back false tt rest)
     back (Some v) h rest =
         rw (append_assoc (bool.write true) (f.write v) rest, bool_lawful.back true tt (f.write v ++ rest), l.back v h rest)
 
     exact : (xs : List ℕ) (s : Bool) (rest : List ℕ) → Exact Any bool.write xs s rest
         → Reads (Exact (GoodOption Good) (write_option f.write) xs)
-        (cond s (next (λ v end. got (Some v) end) (f.read rest)) (got None rest))
+        (cond s (next (λ v end. Ok (Some v, end)) (f.read rest)) (Ok (None, rest)))
     exact xs false rest x = is-got None rest (x.0, (tt, x.1.1))
     exact xs true rest x = next-reads (reads l rest x.1.1) λ v end y.
         is-got (Some v) end (joined (bool.write true) (f.write v) end x.0 y.0, (y.1.0, y.1.1))
@@ -188,7 +189,7 @@ Each Good before (v ∷ vs) = Good before v × Each Good (v ∷ before) vs
 module _ {A : Type 0} (Good : List A → A → Type 0) (f : List A → Borsh A) (l : (before : List A) → Lawful (Good before) (f before))
     (same : (before : List A) (v : A) → (f before).write v ≡ (f []).write v) where
   all_back : (before vs : List A) → Each Good before vs → (rest : List ℕ)
-      → read_all (λ before. (f before).read) (length vs) before (write_all (f []).write vs ++ rest) ≡ got vs rest
+      → read_all (λ before. (f before).read) (length vs) before (write_all (f []).write vs ++ rest) ≡ Ok (vs, rest)
   unfolding read_all write_all
   all_back before [] h rest = refl
   all_back before (v ∷ vs) h rest =
@@ -218,7 +219,7 @@ module _ {A : Type 0} (Good : List A → A → Type 0) (f : List A → Borsh A) 
       count = only-lawful (int-lawful 4) (λ n. leb n most)
 
       back : (vs : List A) → (length vs ≤ most) × Each Good [] vs → (rest : List ℕ)
-          → (vec most f).read ((vec most f).write vs ++ rest) ≡ got vs rest
+          → (vec most f).read ((vec most f).write vs ++ rest) ≡ Ok (vs, rest)
       back vs h rest =
           let more = write_all (f []).write vs in
           rw (

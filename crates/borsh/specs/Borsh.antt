@@ -2,21 +2,20 @@
 -- little-endian; a bool is a byte 0 or 1; an enum is its discriminant's byte; an option is a byte 0, or a byte 1 and its value; a fixed
 -- array is its values; a vec is its count in four bytes and its values; a struct is its fields in order.
 -- Assumes nothing.
-use Rattle.std.specs.Prelude.{ℕ, zero, suc, List, [], ◌∷◌, ◌++◌, Bool, true, false, cond, length, drop, ltb, leb, Option, Some, None}
+use Rattle.std.specs.Prelude.{ℕ, zero, suc, List, [], ◌∷◌, ◌++◌, Bool, true, false, cond, length, drop, ltb, leb, Option, Some, None, Result, Ok, Err}
 use Rattle.layout.specs.Layout.{word, bytes, flag_byte, flag_of}
 
 infixr 4 ◌then◌
 -- ---- formats
 
 -- What reading gives: a value and the bytes after it, or a refusal's number.
-pub data Read (A : Type 0) : Type 0 where
-  got : A → List ℕ → Read A
-  refused : ℕ → Read A
+abbrev pub Read : Type 0 → Type 0
+Read A = Result (A × List ℕ) ℕ
 
 -- Reading goes on with the bytes after a value.
 abbrev pub next : {A B : Type 0} → (A → List ℕ → Read B) → Read A → Read B
-next f (got v rest) = f v rest
-next f (refused n) = refused n
+next f (Ok (v, rest)) = f v rest
+next f (Err n) = Err n
 
 pub record Borsh (A : Type 0) : Type 0 where
   pub write : A → List ℕ
@@ -26,16 +25,16 @@ pub record Borsh (A : Type 0) : Type 0 where
 
 -- An integer of n bytes. 9: the bytes end early.
 unfoldable pub int : ℕ → Borsh ℕ
-int n = record { write = bytes n; read = λ xs. cond (ltb (length xs) n) (refused 9) (got (word n xs 0) (drop n xs)) }
+int n = record { write = bytes n; read = λ xs. cond (ltb (length xs) n) (Err 9) (Ok (word n xs 0, drop n xs)) }
 
 -- Not every value is allowed. 10: this one is not.
 unfoldable pub only : {A : Type 0} → (A → Bool) → Borsh A → Borsh A
 only allowed f =
-    record { write = f.write; read = λ xs. next (λ v rest. cond (allowed v) (got v rest) (refused 10)) (f.read xs) }
+    record { write = f.write; read = λ xs. next (λ v rest. cond (allowed v) (Ok (v, rest)) (Err 10)) (f.read xs) }
 
 -- the values of another type
 unfoldable pub mapped : {A B : Type 0} → (A → B) → (B → A) → Borsh A → Borsh B
-mapped to from f = record { write = λ v. f.write (from v); read = λ xs. next (λ v rest. got (to v) rest) (f.read xs) }
+mapped to from f = record { write = λ v. f.write (from v); read = λ xs. next (λ v rest. Ok (to v, rest)) (f.read xs) }
 
 -- an enum of n cases, by the numbers of its cases
 unfoldable pub enum : {A : Type 0} → ℕ → (A → ℕ) → (ℕ → A) → Borsh A
@@ -51,7 +50,7 @@ unfoldable pub ◌then◌ : {A B : Type 0} → Borsh A → Borsh B → Borsh (A 
 f then g =
     record {
       write = λ v. f.write v.0 ++ g.write v.1;
-      read = λ xs. next (λ a rest. next (λ b end. got (a, b) end) (g.read rest)) (f.read xs);
+      read = λ xs. next (λ a rest. next (λ b end. Ok ((a, b), end)) (g.read rest)) (f.read xs);
     }
 
 abbrev pub write_option : {A : Type 0} → (A → List ℕ) → Option A → List ℕ
@@ -62,7 +61,7 @@ unfoldable pub option : {A : Type 0} → Borsh A → Borsh (Option A)
 option f =
     record {
       write = write_option f.write;
-      read = λ xs. next (λ b rest. cond b (next (λ v end. got (Some v) end) (f.read rest)) (got None rest)) (bool.read xs);
+      read = λ xs. next (λ b rest. cond b (next (λ v end. Ok (Some v, end)) (f.read rest)) (Ok (None, rest))) (bool.read xs);
     }
 
 -- values one after the other
@@ -72,8 +71,8 @@ write_all w (v ∷ vs) = w v ++ write_all w vs
 
 -- n of them; how a value is read may depend on those before it, the last of them first
 unfoldable pub read_all : {A : Type 0} → (List A → List ℕ → Read A) → ℕ → List A → List ℕ → Read (List A)
-read_all r zero before xs = got [] xs
-read_all r (suc n) before xs = next (λ v rest. next (λ vs end. got (v ∷ vs) end) (read_all r n (v ∷ before) rest)) (r before xs)
+read_all r zero before xs = Ok ([], xs)
+read_all r (suc n) before xs = next (λ v rest. next (λ vs end. Ok (v ∷ vs, end)) (read_all r n (v ∷ before) rest)) (r before xs)
 
 unfoldable pub array : {A : Type 0} → ℕ → Borsh A → Borsh (List A)
 array n f = record { write = write_all f.write; read = read_all (λ before. f.read) n [] }

@@ -3,7 +3,7 @@
 
 ghost use Rattle.std.specs.Prelude.{◌≡◌};
 ghost use Rattle.time.specs.Raw.{BeforeLastSecond};
-ghost use Rattle.registers.specs.Calls.{next, settles, writes_control, ending, ending_number};
+ghost use Rattle.registers.specs.Calls.{next, settles, writes_control, ending};
 
 use access::write_register;
 use bits::{FENR, FLMCR1, SWE, setup};
@@ -36,15 +36,6 @@ pub fn ending(direction: Direction, call: Call, control: u8) -> Ending
         return Ending::Completed;
     }
     Ending::Interrupted
-}
-
-pub fn ending_number(ending: Ending) -> u8
-    ensures { result ≡ ending_number ending }
-{
-    match ending {
-        Ending::Completed => 2,
-        Ending::Interrupted => 3,
-    }
 }
 
 // The registers after an accepted call.

@@ -19,7 +19,7 @@ pub const CELLS: usize = 393216;
 pub const PAGES: usize = 384;
 
 // By which limit a cell is sensed.
-#[derive(Clone, Copy)]
+#[derive(Clone, Copy, Debug, PartialEq, Eq)]
 pub enum Sense {
     Normal,
     ProgramVerify,
@@ -27,7 +27,7 @@ pub enum Sense {
 }
 
 // Which way a pulse moves charges.
-#[derive(Clone, Copy)]
+#[derive(Clone, Copy, Debug, PartialEq, Eq)]
 pub enum Direction {
     Program,
     Erase,

@@ -90,16 +90,12 @@ fn open(cells: &mut [u64], bytes: &[u8])
     requires { (length cells.old ≡ page_cells) × (length bytes.now ≡ page_bytes) }
     ensures { cells.new ≡ opened_page bytes.now cells.old }
 {
-    let mut i: usize = 0;
-    while i < PAGE {
+    for i in 0..PAGE {
         let stored = bytes[i];
-        let mut k: usize = 0;
-        while k < 8 {
+        for k in 0..8 {
             let j = 8 * i + k;
             cells[j] = first_charge(bit(stored, k));
-            k += 1;
         }
-        i += 1;
     }
 }
 
@@ -109,17 +105,12 @@ fn charge(cells: &mut [u64], latch: &[u8; PAGE], direction: Direction, exposure:
     ensures { cells.new ≡ charged_page direction latch.now (span exposure) cells.old }
 {
     let by = amount(direction, exposure);
-    let mut i: usize = 0;
-    while i < PAGE {
+    for i in 0..PAGE {
         let latched = latch[i];
-        let mut k: usize = 0;
-        while k < 8 {
+        for k in 0..8 {
             let j = 8 * i + k;
-            let q = cells[j];
-            cells[j] = moved(direction, bit(latched, k), by, q);
-            k += 1;
+            cells[j] = moved(direction, bit(latched, k), by, cells[j]);
         }
-        i += 1;
     }
 }
 

@@ -49,7 +49,7 @@ fn put_scalars(record: &mut [u8], registers: Registers, since: Time)
     put_row(record, HALVES, &halves_of(registers, since));
 }
 
-// A state's record.
+// A state's record. It is no array reference: callers know a slice's length together with two others', and would unwrap one at each call.
 pub fn write(record: &mut [u8], flash: Flash)
     requires { length «record».old ≡ record_length }
     ensures { «record».new ≡ encoded flash }

@@ -3,11 +3,11 @@ ghost use Rattle.std.specs.Prelude.{◌≡◌};
 ghost use Rattle.layout.specs.Layout.{supply_of, mode_of, head_of, addresses_of, halves_of, registers_of};
 
 use cell::PAGE;
-use control::supplies::{mode_number, supply_number};
 use control::{Mode, PendingSense, Supply};
 use registers::Registers;
 use time::Time;
 
+// A supply and a mode of any byte, as the definitions have them: whether a byte is one is tested before, so there is no `TryFrom`.
 #[tactic(auto, unfolding(layout::specs::Layout::supply_of))]
 pub fn supply_of(b: u8) -> Supply
     ensures { result ≡ supply_of b }
@@ -44,9 +44,9 @@ pub fn head_of(r: Registers) -> [u8; 10]
         r.erase,
         u8::from(r.enabled),
         u8::from(r.power_down_disabled),
-        supply_number(r.supply),
+        u8::from(r.supply),
         u8::from(r.oscillator),
-        mode_number(r.mode),
+        u8::from(r.mode),
         u8::from(r.module),
         u8::from(r.verify_pending.is_some()),
     ]

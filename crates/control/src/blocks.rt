@@ -5,6 +5,7 @@ ghost use Rattle.control.specs.Blocks.{erase_range};
 use crate::Range;
 
 // The range that the erase register selects.
+#[tactic(auto, unfolding(crate::specs::Blocks::erase_range))]
 pub fn erase_range(erase: u8) -> Range
     ensures { result ≡ erase_range erase }
 {

@@ -9,7 +9,7 @@ pub mod verify;
 use time::Time;
 
 // The controller's modes, 0 to 5.
-#[derive(Clone, Copy)]
+#[derive(Clone, Copy, Debug, PartialEq, Eq)]
 pub enum Mode {
     Active,
     Subactive,
@@ -20,7 +20,7 @@ pub enum Mode {
 }
 
 // The array's supply, 0 to 2.
-#[derive(Clone, Copy)]
+#[derive(Clone, Copy, Debug, PartialEq, Eq)]
 pub enum Supply {
     Normal,
     Reduced,
@@ -28,14 +28,14 @@ pub enum Supply {
 }
 
 // A verify sense of four bytes from an address on, due at an instant.
-#[derive(Clone, Copy)]
+#[derive(Clone, Copy, Debug, PartialEq, Eq)]
 pub struct PendingSense {
     pub address: u16,
     pub at: Time,
 }
 
 // Pages from the first on.
-#[derive(Clone, Copy)]
+#[derive(Clone, Copy, Debug, PartialEq, Eq)]
 pub struct Range {
     pub first: u16,
     pub pages: u16,

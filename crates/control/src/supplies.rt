@@ -4,39 +4,45 @@ ghost use Rattle.control.specs.Supplies.{supply_number, mode_number, supply_in};
 
 use crate::{Mode, Supply};
 
-pub fn supply_number(supply: Supply) -> u8
-    ensures { result ≡ supply_number supply }
-{
-    match supply {
-        Supply::Normal => 0,
-        Supply::Reduced => 1,
-        Supply::Stopped => 2,
+impl From<Supply> for u8 {
+    ghost from_gives = { λ supply n. n ≡ supply_number supply };
+
+    fn from(supply: Supply) -> u8 {
+        match supply {
+            Supply::Normal => 0,
+            Supply::Reduced => 1,
+            Supply::Stopped => 2,
+        }
     }
 }
 
-pub fn mode_number(mode: Mode) -> u8
-    ensures { result ≡ mode_number mode }
-{
-    match mode {
-        Mode::Active => 0,
-        Mode::Subactive => 1,
-        Mode::Sleep => 2,
-        Mode::Subsleep => 3,
-        Mode::Watch => 4,
-        Mode::Standby => 5,
+impl From<Mode> for u8 {
+    ghost from_gives = { λ mode n. n ≡ mode_number mode };
+
+    fn from(mode: Mode) -> u8 {
+        match mode {
+            Mode::Active => 0,
+            Mode::Subactive => 1,
+            Mode::Sleep => 2,
+            Mode::Subsleep => 3,
+            Mode::Watch => 4,
+            Mode::Standby => 5,
+        }
     }
 }
 
 // The supply that a mode and the module give.
+#[tactic(auto, unfolding(crate::specs::Supplies::supply_in))]
 pub fn supply_in(mode: Mode, module: bool, power_down_disabled: bool) -> Supply
     ensures { result ≡ supply_in mode «module» power_down_disabled }
 {
-    let n = mode_number(mode);
-    if !module | (3 <= n) {
+    if !module {
         return Supply::Stopped;
     }
-    if (n == 1) & !power_down_disabled {
-        return Supply::Reduced;
+    match mode {
+        Mode::Active | Mode::Sleep => Supply::Normal,
+        Mode::Subactive if power_down_disabled => Supply::Normal,
+        Mode::Subactive => Supply::Reduced,
+        Mode::Subsleep | Mode::Watch | Mode::Standby => Supply::Stopped,
     }
-    Supply::Normal
 }

@@ -2,7 +2,6 @@
 ghost use Rattle.std.specs.Prelude.{◌≡◌};
 ghost use Rattle.control.specs.Verify.{sense_due, pending_after};
 
-use crate::supplies::supply_number;
 use crate::{PendingSense, Supply};
 use time::Time;
 
@@ -12,7 +11,7 @@ pub fn sense_due(pending: Option<PendingSense>, supply: Supply, now: Time) -> bo
 {
     match pending {
         None => false,
-        Some(sense) => now.reached(sense.at) & !(supply_number(supply) == 2),
+        Some(sense) => now.reached(sense.at) & (supply != Supply::Stopped),
     }
 }
 

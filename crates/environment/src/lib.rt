@@ -6,7 +6,7 @@ ghost use Rattle.time.specs.Raw.{BeforeLastSecond};
 ghost use Rattle.registers.specs.Environment.{cleared, reset, power_off, unchanged, clears, environment_set, environment};
 
 use cell::PAGE;
-use control::supplies::{mode_number, supply_in, supply_number};
+use control::supplies::supply_in;
 use control::{Mode, Supply};
 use registers::Registers;
 use time::Time;
@@ -25,6 +25,7 @@ fn cleared(registers: Registers) -> Registers
     }
 }
 
+#[tactic(auto, unfolding(registers::specs::Environment::reset, registers::specs::Environment::blank_latch))]
 pub fn reset(registers: Registers, now: Time) -> Registers
     ensures { result ≡ reset now registers }
 {
@@ -37,6 +38,7 @@ pub fn reset(registers: Registers, now: Time) -> Registers
     r
 }
 
+#[tactic(auto, unfolding(registers::specs::Environment::power_off))]
 pub fn power_off(registers: Registers, now: Time) -> Registers
     ensures { result ≡ power_off now registers }
 {
@@ -50,28 +52,28 @@ pub fn power_off(registers: Registers, now: Time) -> Registers
 }
 
 // Whether supply, oscillator, mode and module are as they were.
+#[tactic(auto, unfolding(registers::specs::Environment::unchanged))]
 pub fn unchanged(registers: Registers, mode: Mode, module: bool, oscillator: bool) -> bool
     ensures { result ≡ unchanged mode «module» oscillator registers }
 {
-    let old = registers.supply;
-    let was = registers.mode;
-    let new = supply_in(mode, module, registers.power_down_disabled);
-    (supply_number(old) == supply_number(new))
+    let supply = supply_in(mode, module, registers.power_down_disabled);
+    (registers.supply == supply)
         & (registers.oscillator == oscillator)
-        & (mode_number(was) == mode_number(mode))
+        & (registers.mode == mode)
         & (registers.module == module)
 }
 
 // Whether a change of mode or module clears control.
+#[tactic(auto, unfolding(registers::specs::Environment::clears))]
 fn clears(registers: Registers, mode: Mode, module: bool) -> bool
     ensures { result ≡ clears mode «module» registers }
 {
-    let was = registers.mode;
-    let n = mode_number(mode);
-    (!module & registers.module) | (!(n == mode_number(was)) & !((n == 0) | (n == 2)))
+    let unaffected = matches!(mode, Mode::Active | Mode::Sleep);
+    (!module & registers.module) | ((mode != registers.mode) & !unaffected)
 }
 
 // The new supply, oscillator, mode and module, with the waits that they begin.
+#[tactic(auto, unfolding(registers::specs::Environment::environment_set))]
 fn environment_set(
     registers: Registers,
     mode: Mode,
@@ -83,11 +85,9 @@ fn environment_set(
     requires { BeforeLastSecond now }
     ensures { result ≡ environment_set mode «module» oscillator supply now registers }
 {
-    let was = registers.supply;
-    let old = supply_number(was);
-    let new = supply_number(supply);
+    let old = registers.supply;
     let starts = oscillator & !registers.oscillator;
-    let supplied = !(new == old) & !(old == 0) & !(new == 2);
+    let supplied = (supply != old) & (old != Supply::Normal) & (supply != Supply::Stopped);
     let ready = renewed(supplied, SUPPLY_CHANGE, now, registers.ready);
     let swe_ready = renewed(starts, SWE_RISE, now, registers.swe_ready);
     let program_ready = renewed(starts, PSU_RISE, now, registers.program_ready);
@@ -105,6 +105,7 @@ fn environment_set(
     }
 }
 
+#[tactic(auto, unfolding(registers::specs::Environment::environment))]
 pub fn environment(
     registers: Registers,
     mode: Mode,

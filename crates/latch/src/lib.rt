@@ -6,8 +6,7 @@ ghost use Rattle.time.specs.Raw.{BeforeLastSecond};
 ghost use Rattle.registers.specs.Latch.{takes_data, latched, sense_pending, data_taken, data_write, write8};
 
 use bits::{EV, PV, SWE, has};
-use control::PendingSense;
-use control::supplies::supply_number;
+use control::{PendingSense, Supply};
 use registers::{PAGE_BYTES, Registers};
 use time::Time;
 use waits::SENSE;
@@ -16,10 +15,9 @@ use waits::SENSE;
 fn takes_data(registers: Registers, now: Time) -> bool
     ensures { result ≡ takes_data now registers }
 {
-    let supply = registers.supply;
     has(registers.control, SWE)
         & now.reached(registers.swe_ready)
-        & (supply_number(supply) == 0)
+        & (registers.supply == Supply::Normal)
         & registers.oscillator
 }
 

@@ -9,7 +9,7 @@ ghost use Rattle.light.specs.Writes.{lit, may_pulse, opens, is_light, since_afte
 
 use crate::writing::{settings_of, with_settings, write};
 use bits::{E, ESU, FENR, P, PSU, SWE, has};
-use control::supplies::supply_number;
+use control::Supply;
 use flash::Flash;
 use lent::checking::last_second;
 use listing::KIND;
@@ -41,8 +41,7 @@ pub struct Ahead {
 fn may_pulse(registers: Registers) -> bool
     ensures { result ≡ may_pulse registers }
 {
-    let supply = registers.supply;
-    !registers.error & registers.oscillator & (supply_number(supply) == 0)
+    !registers.error & registers.oscillator & (registers.supply == Supply::Normal)
 }
 
 fn opens(may: bool, control: u8) -> bool
@@ -96,6 +95,7 @@ fn run_writes(flash: Flash, calls: &[u64], from: usize, end: usize) -> Ahead
     let may = may_pulse(flash.registers);
     let mut settings = settings_of(flash.registers);
     let mut since = flash.pulse_since;
+    // No for: where the loop has come to is part of the answer, also where it begins past the end.
     let mut i: usize = from;
     while i < end {
         let what = calls[3 * i];

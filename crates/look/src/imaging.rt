@@ -29,10 +29,8 @@ fn exposed_cells(
     ensures { result ≡ mapi (λ k q. exposed_by pulse latch.now (span exposure) (8 * address + k) q) 0 cells }
 {
     let mut all = cells;
-    let mut k: usize = 0;
-    while k < 8 {
+    for k in 0..8 {
         all[k] = exposed_by(pulse, latch, exposure, 8 * address + k, all[k]);
-        k += 1;
     }
     all
 }
@@ -90,14 +88,12 @@ fn all_blank(
     ensures { result ≡ all_blank page_bytes start (expose pulse latch.now (span exposure) (record { index = indices.now; array = array.now; charges = charges.now })).array }
 {
     let limits = ceilings(Sense::Normal);
-    let mut i: usize = 0;
-    while i < PAGE {
+    for i in 0..PAGE {
         let a = start + i;
         let byte = image_byte(indices, array, charges, &limits, pulse, latch, exposure, a);
         if byte != 0xFF {
             return false;
         }
-        i += 1;
     }
     true
 }
@@ -122,11 +118,8 @@ fn write_stored(array: &[u8], start: usize, out: &mut [u8])
     requires { (start + page_bytes ≤ length array.now) × (start + page_bytes ≤ length out.old) }
     ensures { out.new ≡ sets out.old start (take page_bytes (drop start array.now)) }
 {
-    let mut i: usize = 0;
-    while i < PAGE {
-        out[start + i] = array[start + i];
-        i += 1;
-    }
+    let end = start + PAGE;
+    out[start..end].copy_from_slice(&array[start..end]);
 }
 
 // The bytes of the page that begins at `start` after an exposure, into `out`.
@@ -144,11 +137,9 @@ fn write_exposed(
     requires { (length indices.now ≡ pages) × (slots_sound indices.now ≡ true) × (length array.now ≡ array_bytes) × (length charges.now ≡ array_cells) × (limits.now ≡ ceiling_table Normal) × (start + page_bytes ≤ array_bytes) × (array_bytes ≤ length out.old) }
     ensures { out.new ≡ sets out.old start (take page_bytes (drop start (expose pulse latch.now (span exposure) (record { index = indices.now; array = array.now; charges = charges.now })).array)) }
 {
-    let mut i: usize = 0;
-    while i < PAGE {
+    for i in 0..PAGE {
         let a = start + i;
         out[a] = image_byte(indices, array, charges, limits, pulse, latch, exposure, a);
-        i += 1;
     }
 }
 
@@ -166,8 +157,7 @@ fn write_image(
     ensures { out.new ≡ sets out.old 0 (expose pulse latch.now (span exposure) (record { index = indices.now; array = array.now; charges = charges.now })).array }
 {
     let limits = ceilings(Sense::Normal);
-    let mut page: usize = 0;
-    while page < PAGES {
+    for page in 0..PAGES {
         let start = page * PAGE;
         if reaches(pulse, exposure, page) {
             write_exposed(
@@ -176,7 +166,6 @@ fn write_image(
         } else {
             write_stored(array, start, out);
         }
-        page += 1;
     }
 }
 

@@ -5,20 +5,20 @@ ghost use Rattle.registers.specs.Calls.{settles};
 ghost use Rattle.flash.specs.Chip.{placed, verified, unserved, settled_answer, stored_answer, answer_limit};
 
 use bits::{EV, PV};
-use control::supplies::supply_number;
+use control::Supply;
 use permit::{serve_byte, serve_word};
 use registers::{Call, Pulse, Registers};
 use time::Time;
 
 // What a byte read answers where reading is not normal and no pulse is open, after its settle.
+#[tactic(auto, unfolding(flash::specs::Chip::verified))]
 fn verified(address: u16, time: Time, registers: Registers, sensed: [u8; 4]) -> u8
     ensures { result ≡ verified address time registers sensed }
 {
-    let supply = registers.supply;
     let low = registers.control % 16;
     let verifies = (low == PV) | (low == EV);
-    if verifies & !(supply_number(supply) == 2) & time.reached(registers.ready) {
-        return sensed[(address % 4) as usize];
+    if verifies & (registers.supply != Supply::Stopped) & time.reached(registers.ready) {
+        return sensed[usize::from(address % 4)];
     }
     0xFF
 }
@@ -39,13 +39,6 @@ fn unserved(
     }
 }
 
-// A byte as an answer.
-fn wide(byte: u8) -> u16
-    ensures { (result ≡ byte) × (result < 256) }
-{
-    byte as u16
-}
-
 // The answer of a call that settled; `sensed` is as the settle left it.
 pub fn settled_answer(
     call: Call,
@@ -60,10 +53,10 @@ pub fn settled_answer(
     match call {
         Call::WriteRegister(_, _) => 0,
         Call::Write8(_, _) => 0,
-        Call::Read8(a) => wide(unserved(a, time, pulse, registers, sensed)),
+        Call::Read8(a) => u16::from(unserved(a, time, pulse, registers, sensed)),
         Call::Read16(a) => {
-            let high = wide(unserved(a, time, pulse, registers, sensed));
-            let low = wide(unserved(a + 1, time, pulse, registers, sensed));
+            let high = u16::from(unserved(a, time, pulse, registers, sensed));
+            let low = u16::from(unserved(a + 1, time, pulse, registers, sensed));
             256 * high + low
         }
         Call::Protect => 0,
@@ -81,7 +74,7 @@ pub fn stored_answer(call: Call, registers: Registers, time: Time, array: &[u8])
     match call {
         Call::WriteRegister(_, _) => 0,
         Call::Write8(_, _) => 0,
-        Call::Read8(a) => wide(serve_byte(registers, time, array, a as usize)),
+        Call::Read8(a) => u16::from(serve_byte(registers, time, array, a as usize)),
         Call::Read16(a) => serve_word(registers, time, array, a as usize),
         Call::Protect => 0,
         Call::Reset => 0,

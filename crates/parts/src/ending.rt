@@ -3,68 +3,19 @@ ghost use Rattle.std.specs.Prelude.{◌≡◌, ◌<◌, ◌≤◌, ◌+◌, ◌*
 ghost use Rattle.std.proofs.lemmas.List.Edits.{sets};
 ghost use Rattle.cell.specs.Cell.{page_bytes, pages};
 ghost use Rattle.registers.specs.Calls.{ending, ending_number};
-ghost use Rattle.settle.specs.Settling.{same_direction, same_pulse, ends_of, range_bytes, range_end, word};
+ghost use Rattle.settle.specs.Settling.{ends_of, range_bytes, range_end, word};
 
-use calling::{ending, ending_number};
-use cell::{Direction, PAGE};
-use registers::{Call, Pulse};
-use settling::word;
-
-// Bytes of a page, in an event word.
-const PAGE_BYTES: u64 = PAGE as u64;
-
-fn same_direction(a: Direction, b: Direction) -> bool
-    ensures { result ≡ same_direction a b }
-{
-    match a {
-        Direction::Program => match b {
-            Direction::Program => true,
-            Direction::Erase => false,
-        },
-        Direction::Erase => match b {
-            Direction::Program => false,
-            Direction::Erase => true,
-        },
-    }
-}
-
-fn same_pulse(a: Option<Pulse>, b: Option<Pulse>) -> bool
-    ensures { result ≡ same_pulse a b }
-{
-    match a {
-        None => match b {
-            None => true,
-            Some(_) => false,
-        },
-        Some(p) => match b {
-            None => false,
-            Some(q) => {
-                let direction = p.direction;
-                let other = q.direction;
-                let ready = p.ready;
-                let instant = q.ready;
-                same_direction(direction, other)
-                    & (p.first == q.first)
-                    & (p.pages == q.pages)
-                    & ((ready.0 == instant.0) & (ready.1 == instant.1))
-            }
-        },
-    }
-}
+use calling::ending;
+use registers::{Call, PAGE_BYTES, Pulse};
+use settling::{EventKind, word};
 
 // The end event's word of a pulse whose range is not empty.
 fn end_word(pulse: Pulse, call: Call, control: u8) -> u64
     requires { pulse.first + pulse.pages ≤ pages }
     ensures { result ≡ word (ending_number (ending pulse.direction call control)) (pulse.first * page_bytes) (pulse.pages * page_bytes) }
 {
-    let direction = pulse.direction;
-    let first = (pulse.first as u64) * PAGE_BYTES;
-    let length = (pulse.pages as u64) * PAGE_BYTES;
-    word(
-        ending_number(ending(direction, call, control)) as u64,
-        first,
-        length,
-    )
+    let kind = EventKind::from(ending(pulse.direction, call, control));
+    word(kind, pulse.first * PAGE_BYTES, pulse.pages * PAGE_BYTES)
 }
 
 // The end of a pulse that a call changed, told after `count` words. The answer is the count after.
@@ -79,7 +30,7 @@ pub fn end_pulse(
     requires { (range_end old ≤ pages) × (1 ≤ range_bytes old → count < length events.old) }
     ensures { (events.new ≡ sets events.old count (ends_of call control old new)) × (result ≡ count + length (ends_of call control old new)) }
 {
-    if same_pulse(old, new) {
+    if old == new {
         return count;
     }
     match old {

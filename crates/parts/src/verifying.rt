@@ -39,11 +39,9 @@ fn sense_four(m: Sense, address: usize, indices: &[u16], array: &[u8], charges: 
 {
     let limits = ceilings(m);
     let mut bytes = [0u8; 4];
-    let mut k: usize = 0;
-    while k < 4 {
+    for k in 0..4 {
         let cells = byte_cells(indices, array, charges, address + k);
         bytes[k] = sense_byte(m, &limits, address + k, &cells);
-        k += 1;
     }
     bytes
 }
@@ -65,7 +63,7 @@ pub fn sense(
     let control = registers.control;
     let low = control % 16;
     if sense_due(pending, supply, time) & ((low == PV) | (low == EV)) {
-        let address = sense_address(pending) as usize;
+        let address = usize::from(sense_address(pending));
         return sense_four(verify_sense(control), address, indices, array, charges);
     }
     old

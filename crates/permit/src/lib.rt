@@ -1,10 +1,11 @@
-// The permit of normal reading: a struct that holds the array. It is made under normal reading alone, and read by two thin functions;
+// The permit of normal reading: a struct that holds the array. It is made by the test of normal reading, and read by two thin functions;
 // `byte_at` and `word_at`, on the slice, do the work.
 #![tactic(auto)]
 
-ghost use Rattle.std.specs.Prelude.{◌≡◌, true, suc, ◌+◌, ◌*◌, ◌<◌, length};
+ghost use Rattle.std.specs.Prelude.{◌≡◌, true, false, suc, ◌+◌, ◌*◌, ◌<◌, length, MatchOption};
 ghost use Rattle.cell.specs.Cell.{at};
 ghost use Rattle.registers.specs.Pulses.{normal};
+ghost use Rattle.permit.specs.Permit.{shown};
 
 use registers::Registers;
 use time::Time;
@@ -15,12 +16,15 @@ pub struct NormalRead<'a> {
     array: &'a [u8],
 }
 
-// The permit shows the caller's own array, whole, and exists only under normal reading.
-pub fn normal_read<'a>(registers: Registers, time: Time, array: &'a [u8]) -> NormalRead<'a>
-    requires { normal time registers ≡ true }
-    ensures { result.array ≡ array.entry }
+// The permit under normal reading, and else none. It shows the caller's own array, whole.
+pub fn normal_read<'a>(registers: Registers, time: Time, array: &'a [u8]) -> Option<NormalRead<'a>>
+    ensures { MatchOption result (normal time registers ≡ false) (λ permit. (normal time registers ≡ true) × (shown permit ≡ array.entry)) }
 {
-    NormalRead { array }
+    if registers.normal(time) {
+        Some(NormalRead { array })
+    } else {
+        None
+    }
 }
 
 fn byte_at(array: &[u8], address: usize) -> u8
@@ -35,19 +39,19 @@ fn word_at(array: &[u8], address: usize) -> u16
     requires { suc address < length array.now }
     ensures { result ≡ 256 * at array.now address + at array.now (suc address) }
 {
-    256 * array[address] as u16 + array[address + 1] as u16
+    256 * u16::from(array[address]) + u16::from(array[address + 1])
 }
 
 pub fn read_byte<'a>(permit: NormalRead<'a>, address: usize) -> u8
-    requires { address < length permit.array.now }
-    ensures { result ≡ at permit.entry.array.now address }
+    requires { address < length (shown permit).now }
+    ensures { result ≡ at (shown permit.entry).now address }
 {
     byte_at(permit.array, address)
 }
 
 pub fn read_word<'a>(permit: NormalRead<'a>, address: usize) -> u16
-    requires { suc address < length permit.array.now }
-    ensures { result ≡ 256 * at permit.entry.array.now address + at permit.entry.array.now (suc address) }
+    requires { suc address < length (shown permit).now }
+    ensures { result ≡ 256 * at (shown permit.entry).now address + at (shown permit.entry).now (suc address) }
 {
     word_at(permit.array, address)
 }
@@ -57,12 +61,18 @@ pub fn serve_byte(registers: Registers, time: Time, array: &[u8], address: usize
     requires { (normal time registers ≡ true) × (address < length array.now) }
     ensures { result ≡ at array.now address }
 {
-    read_byte(normal_read(registers, time, array), address)
+    match normal_read(registers, time, array) {
+        Some(permit) => read_byte(permit, address),
+        None => unreachable!(),
+    }
 }
 
 pub fn serve_word(registers: Registers, time: Time, array: &[u8], address: usize) -> u16
     requires { (normal time registers ≡ true) × (suc address < length array.now) }
     ensures { result ≡ 256 * at array.now address + at array.now (suc address) }
 {
-    read_word(normal_read(registers, time, array), address)
+    match normal_read(registers, time, array) {
+        Some(permit) => read_word(permit, address),
+        None => unreachable!(),
+    }
 }

@@ -58,3 +58,5 @@ module _ (q : ℕ) (h : q < FULL) where
     where
       by : (x j : ℕ) → x ≤ q → x - j ≤ q
       by x j k = omega arith
+
+pub ruleset shades = (shade-full, shade-next, shade-low)

@@ -48,3 +48,5 @@ module _ (g : ℕ → ℕ) where
           rw (get_or-set_other now i k v 0 n, e, at-written i out k b, at-written (i + 1) out k b, lt-ltb k i s, lt-ltb k (i + 1) (omega arith))
       each k b (no n) (no s) =
           rw (get_or-set_other now i k v 0 n, e, at-written i out k b, at-written (i + 1) out k b, le-ltb k i (omega arith), le-ltb k (i + 1) (omega arith))
+
+pub ruleset writes = (length-written, written_none, written-turn)

@@ -44,13 +44,11 @@ pub fn holds_charge(
     ensures { result ≡ holds_charge (cell_at (expose pulse latch.now (span exposure) (record { index = indices.now; array = array.now; charges = charges.now }))) page_cells (page * page_cells) }
 {
     let start = page * PAGE_CELLS;
-    let mut i: usize = 0;
-    while i < PAGE_CELLS {
+    for i in 0..PAGE_CELLS {
         let q = cell_after(indices, array, charges, pulse, latch, exposure, start + i);
         if 0 < q {
             return true;
         }
-        i += 1;
     }
     false
 }

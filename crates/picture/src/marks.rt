@@ -27,6 +27,7 @@ pub fn charged(flash: Flash, array: &[u8], charges: &[u64], page: usize, time: T
 }
 
 // The mark of a page at a time.
+#[tactic(auto, unfolding(crate::specs::Marks::mark_at))]
 pub fn mark(flash: Flash, array: &[u8], charges: &[u64], page: usize, time: Time) -> u8
     requires { Fit (record { flash = flash; array = array.now; charges = charges.now }) × (page < pages) }
     ensures { result ≡ mark_at time (record { flash = flash; array = array.now; charges = charges.now }) page }
@@ -41,13 +42,12 @@ pub fn mark(flash: Flash, array: &[u8], charges: &[u64], page: usize, time: Time
 }
 
 // The marks of all pages at a time, into `out`, whose bytes past them stay.
+#[tactic(auto, using(crate::proofs::Written::writes))]
 pub fn write_marks(flash: Flash, array: &[u8], charges: &[u64], time: Time, out: &mut [u8])
     requires { Fit (record { flash = flash; array = array.now; charges = charges.now }) × (pages ≤ length out.old) }
     ensures { out.new ≡ written (mark_at time (record { flash = flash; array = array.now; charges = charges.now })) pages out.old }
 {
-    let mut page: usize = 0;
-    while page < PAGES {
+    for page in 0..PAGES {
         out[page] = mark(flash, array, charges, page, time);
-        page += 1;
     }
 }

@@ -20,6 +20,7 @@ use time::{Duration, Time};
 const STEP: u64 = 50638120986653671;
 
 // The shade of a charge.
+#[tactic(auto, using(crate::proofs::Steps::shades))]
 pub fn shade(charge: u64) -> u8
     ensures { result ≡ shade_of charge }
 {
@@ -35,6 +36,7 @@ pub fn shade(charge: u64) -> u8
 }
 
 // The shades of all cells after an exposure, into `out`, whose bytes past them stay.
+#[tactic(auto, using(crate::proofs::Written::writes))]
 fn write_exposed(
     indices: &[u16],
     array: &[u8],
@@ -47,11 +49,9 @@ fn write_exposed(
     requires { (length indices.now ≡ pages) × (slots_sound indices.now ≡ true) × (length array.now ≡ array_bytes) × (length charges.now ≡ array_cells) × (array_cells ≤ length out.old) }
     ensures { out.new ≡ written (λ i. shade_of (cell_at (expose pulse latch.now (span exposure) (record { index = indices.now; array = array.now; charges = charges.now })) i)) array_cells out.old }
 {
-    let mut i: usize = 0;
-    while i < CELLS {
+    for i in 0..CELLS {
         let q = cell_after(indices, array, charges, pulse, latch, exposure, i);
         out[i] = shade(q);
-        i += 1;
     }
 }
 

@@ -82,7 +82,7 @@ impl Registers {
 }
 
 // A pulse is its direction, range and ready instant.
-#[derive(Clone, Copy)]
+#[derive(Clone, Copy, Debug, PartialEq, Eq)]
 pub struct Pulse {
     pub direction: Direction,
     pub first: u16,
@@ -91,7 +91,7 @@ pub struct Pulse {
 }
 
 // The calls that the ledger enters, with their arguments but the time.
-#[derive(Clone, Copy)]
+#[derive(Clone, Copy, Debug, PartialEq, Eq)]
 pub enum Call {
     WriteRegister(u16, u8),
     Write8(u16, u8),
@@ -104,7 +104,7 @@ pub enum Call {
 }
 
 // How a pulse ended.
-#[derive(Clone, Copy)]
+#[derive(Clone, Copy, Debug, PartialEq, Eq)]
 pub enum Ending {
     Completed,
     Interrupted,

@@ -6,8 +6,8 @@ ghost use Rattle.registers.specs.Pulses.{ready_for, program_pulse, erase_pulse, 
 use crate::{PAGE_BYTES, Pulse, Registers};
 use bits::{E, ESU, P, PSU, SWE, has};
 use cell::Direction;
+use control::Supply;
 use control::blocks::erase_range;
-use control::supplies::supply_number;
 use time::Time;
 use waits::trip_wait;
 
@@ -47,8 +47,7 @@ impl Registers {
     fn powered(self) -> bool
         ensures { result ≡ powered self }
     {
-        let supply = self.supply;
-        !self.error & self.oscillator & (supply_number(supply) == 0) & has(self.control, SWE)
+        !self.error & self.oscillator & (self.supply == Supply::Normal) & has(self.control, SWE)
     }
 
     // The open pulse.
@@ -70,12 +69,12 @@ impl Registers {
     }
 
     // Whether reading is normal.
+    #[tactic(auto, unfolding(crate::specs::Pulses::normal))]
     pub fn normal(self, now: Time) -> bool
         ensures { result ≡ normal now self }
     {
-        let supply = self.supply;
         (self.control % 64 == 0)
-            & !(supply_number(supply) == 2)
+            & (self.supply != Supply::Stopped)
             & now.reached(self.ready)
             & now.reached(self.recovery)
     }

@@ -36,6 +36,8 @@ pub pending-room : (xs : List ℕ) (place : ℕ) → place + state_length xs pla
 unfolding state_length
 pending-room xs place h e = rw (eq-eqb _ _ e) at h
 
+pub ruleset rooms = (state-least, state-room, pending-room)
+
 -- ---- the charges of pages
 
 length-cells : (n : ℕ) (xs : List ℕ) (place : ℕ) → length (pages_cells n xs place) ≡ n * page_cells

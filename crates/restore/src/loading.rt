@@ -26,6 +26,7 @@ fn time_at(bytes: &[u8], at: usize) -> Time
 }
 
 // The pending sense of the state at a place; every state has 256 bytes at least.
+#[tactic(auto, using(crate::proofs::Loaded::rooms))]
 fn pending_at(bytes: &[u8], at: usize) -> Option<PendingSense>
     requires { at + state_length bytes.now at ≤ length bytes.now }
     ensures { (result ≡ pending_at bytes.now at) × (at + 256 ≤ length bytes.now) }
@@ -38,6 +39,7 @@ fn pending_at(bytes: &[u8], at: usize) -> Option<PendingSense>
     None
 }
 
+#[tactic(auto, unfolding(snapshot::specs::Places::registers_at))]
 fn registers_at(bytes: &[u8], at: usize) -> Registers
     requires { at + state_length bytes.now at ≤ length bytes.now }
     ensures { result ≡ registers_at bytes.now at }
@@ -68,6 +70,7 @@ fn registers_at(bytes: &[u8], at: usize) -> Registers
 }
 
 // The state at a place, with a page index.
+#[tactic(auto, using(crate::proofs::Loaded::rooms), unfolding(snapshot::specs::Places::flash_at))]
 pub fn flash_at(bytes: &[u8], at: usize, indices: [u16; PAGES]) -> Flash
     requires { at + state_length bytes.now at ≤ length bytes.now }
     ensures { result ≡ flash_at bytes.now at indices }

@@ -93,3 +93,5 @@ pub state-row : (v : State)
     ++ pending.write v.1.1.1.1.0 ++ row_bytes 1 v.1.1.1.1.1
 unfolding state ◌then◌ array int
 state-row v = rw (write_all-bytes 1 v.1.1.1.1.1) (simp append_assoc)
+
+pub ruleset rows = (flag-from, controls-row, supplies-row)

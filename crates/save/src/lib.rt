@@ -14,7 +14,6 @@ ghost use Rattle.snapshot.specs.Places.{pages_place, page_at};
 
 use cell::{PAGE, PAGE_CELLS, PAGES};
 use control::PendingSense;
-use control::supplies::{mode_number, supply_number};
 use flash::Flash;
 use lent::opening;
 use refusal::Refusal;
@@ -53,6 +52,7 @@ fn put_pages(out: &mut [u8], indices: &[u16], charges: &[u64], count: usize)
 }
 
 // The runs of fields of the state, each after what stands before it.
+#[tactic(auto, using(crate::proofs::Runs::rows), unfolding(snapshot::specs::Snapshot::state_fields))]
 fn put_controls(out: &mut [u8], at: usize, flash: Flash)
     requires { at + 5 ≤ length out.old }
     ensures { take (at + 5) out.new ≡ take at out.old ++ controls.write (state_fields flash).0 }
@@ -77,15 +77,16 @@ fn put_latched(out: &mut [u8], at: usize, flash: Flash)
     r.page.put(out, at + PAGE);
 }
 
+#[tactic(auto, using(crate::proofs::Runs::rows), unfolding(snapshot::specs::Snapshot::state_fields))]
 fn put_supplies(out: &mut [u8], at: usize, flash: Flash)
     requires { at + 4 ≤ length out.old }
     ensures { take (at + 4) out.new ≡ take at out.old ++ supplies.write (state_fields flash).1.1.0 }
 {
     let r = flash.registers;
     let run = [
-        supply_number(r.supply),
+        u8::from(r.supply),
         u8::from(r.oscillator),
-        mode_number(r.mode),
+        u8::from(r.mode),
         u8::from(r.module),
     ];
     put_row(out, at, &run);

@@ -96,6 +96,8 @@ module _ (n count : ℕ) (xs : List ℕ) (place : ℕ) (h : place ≤ length xs)
   pub all-there : cells_number n xs place ≡ 0 → count ≤ (length xs - place) / 8 → 0 ≡ cells_number count xs place
   all-there d l = let f : n ≡ count = omega arith in sym (rw f at d)
 
+pub ruleset cut = (one-over, end-early, all-there)
+
 -- ---- so many charges that are there, after i of them: all has the highest bit if one of the i is over FULL
 
 pub record Looked (count : ℕ) (xs : List ℕ) (start all i : ℕ) : Type 0 where

@@ -37,12 +37,13 @@ fn none_over(bytes: &[u8], at: usize, count: usize) -> bool
 {
     let mut all: u64 = 0;
     for i in 0..count {
-        all = all | over(u64::get(bytes, at + 8 * i));
+        all |= over(u64::get(bytes, at + 8 * i));
     }
     all < TOP
 }
 
 // So many charges in a row: if one that is there is over FULL it is refused, else if one is not there, as those that are there come first.
+#[tactic(auto, using(crate::proofs::Charges::cut))]
 fn check_cells(bytes: &[u8], at: usize, count: usize) -> Result<(), Refusal>
     requires { at ≤ length bytes.now }
     ensures { told result ≡ cells_number count bytes.now at }

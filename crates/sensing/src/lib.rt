@@ -84,11 +84,9 @@ pub fn ceilings(m: Sense) -> [u64; 256]
     let table = classes();
     let by_class = row(m);
     let mut all = [0u64; 256];
-    let mut i: usize = 0;
-    while i < 256 {
-        let c = (table[i] % 16) as usize;
+    for i in 0..256 {
+        let c = usize::from(table[i] % 16);
         all[i] = by_class[c];
-        i += 1;
     }
     all
 }
@@ -129,11 +127,9 @@ pub fn sense_page(m: Sense, ceilings: &[u64; 256], address: usize, cells: &[u64]
     requires { (ceilings.now ≡ ceiling_table m) × (address ≤ array_bytes - page_bytes) × (length cells.now ≡ page_cells) × (length out.old ≡ page_bytes) }
     ensures { out.new ≡ sensed_page m address cells.now out.old }
 {
-    let mut i: usize = 0;
-    while i < PAGE {
+    for i in 0..PAGE {
         let from = 8 * i;
         let to = from + 8;
         out[i] = sense_byte(m, ceilings, address + i, &cells[from..to]);
-        i += 1;
     }
 }

@@ -5,17 +5,10 @@ ghost use Rattle.cell.specs.Cell.{array_bytes, array_cells, pages, tabulate};
 ghost use Rattle.settle.specs.Pages.{cell_at, opened, slot_for, on_page, slots_sound};
 ghost use Rattle.settle.specs.Settling.{charged};
 
-use cell::{PAGE, PAGE_CELLS, PAGES};
+use cell::{PAGE, PAGE_CELLS};
 use charging::{bit, charge_slot, first_charge, open_slot};
 use registers::Pulse;
 use time::Duration;
-
-// An entry of the index as a number of slots.
-fn wide(entry: u16) -> usize
-    ensures { result ≡ entry }
-{
-    entry as usize
-}
 
 // How many pages are opened, counted as wide as an entry, so that many entries are tested at once.
 pub fn opened(indices: &[u16]) -> usize
@@ -23,15 +16,12 @@ pub fn opened(indices: &[u16]) -> usize
     ensures { (result ≡ opened indices.now) × (result ≤ pages) }
 {
     let mut n: u16 = 0;
-    let mut i: usize = 0;
-    while i < PAGES {
-        let entry = indices[i];
-        i += 1;
-        if entry != 0 {
+    for entry in indices {
+        if *entry != 0 {
             n += 1;
         }
     }
-    wide(n)
+    usize::from(n)
 }
 
 // The charge of the cell i.
@@ -39,7 +29,7 @@ pub fn cell_at(indices: &[u16], array: &[u8], charges: &[u64], i: usize) -> u64
     requires { (length indices.now ≡ pages) × (slots_sound indices.now ≡ true) × (length array.now ≡ array_bytes) × (length charges.now ≡ array_cells) × (i < array_cells) }
     ensures { result ≡ cell_at (record { index = indices.now; array = array.now; charges = charges.now }) i }
 {
-    let entry = wide(indices[i / PAGE_CELLS]);
+    let entry = usize::from(indices[i / PAGE_CELLS]);
     if entry == 0 {
         return first_charge(bit(array[i / 8], i % 8));
     }
@@ -52,10 +42,8 @@ pub fn byte_cells(indices: &[u16], array: &[u8], charges: &[u64], address: usize
     ensures { result ≡ tabulate (λ k. cell_at (record { index = indices.now; array = array.now; charges = charges.now }) (8 * address + k)) 8 }
 {
     let mut cells = [0u64; 8];
-    let mut k: usize = 0;
-    while k < 8 {
+    for k in 0..8 {
         cells[k] = cell_at(indices, array, charges, 8 * address + k);
-        k += 1;
     }
     cells
 }
@@ -75,7 +63,7 @@ pub fn charge_page(
     ensures { (indices.new ≡ (on_page (charged pulse latch.now (span exposure)) page (record { index = indices.old; array = array.now; charges = charges.old })).index) × (charges.new ≡ (on_page (charged pulse latch.now (span exposure)) page (record { index = indices.old; array = array.now; charges = charges.old })).charges) × (result ≡ slot_for indices.old page) }
 {
     let direction = pulse.direction;
-    let entry = wide(indices[page]);
+    let entry = usize::from(indices[page]);
     if entry == 0 {
         let from = page * PAGE;
         let to = from + PAGE;

@@ -7,24 +7,54 @@ ghost use Rattle.std.proofs.lemmas.List.Edits.{sets};
 ghost use Rattle.time.specs.Raw.{span};
 ghost use Rattle.cell.specs.declared.Sense.TheVariants.{Normal};
 ghost use Rattle.cell.specs.Cell.{array_bytes, array_cells, page_bytes, page_cells, pages, at, ceiling_table, sensed_byte};
+ghost use Rattle.registers.specs.Calls.{ending_number};
 ghost use Rattle.settle.specs.Pages.{slots_sound};
 ghost use Rattle.settle.specs.Settling.{expose, settled_by, spanned, changes, byte_kind, word, Left, range_bytes, range_end};
+ghost use Rattle.settling.specs.Kinds.{kind_number};
 
 use cell::{PAGE, PAGE_CELLS, Sense};
-use registers::Pulse;
+use registers::{Ending, Pulse};
 use sensing::{ceilings, sense_page};
 use settle::pages::{charge_page, opened};
 use time::{Duration, Time};
 
-// The kind of a byte event.
-const BYTE: u64 = 1;
+// What an event word tells: a byte that changed, or how a pulse ended.
+#[derive(Clone, Copy, Debug, PartialEq, Eq)]
+pub enum EventKind {
+    Byte,
+    Completed,
+    Interrupted,
+}
+
+impl From<EventKind> for u64 {
+    ghost from_gives = { λ kind n. n ≡ kind_number kind };
+
+    fn from(kind: EventKind) -> u64 {
+        match kind {
+            EventKind::Byte => 1,
+            EventKind::Completed => 2,
+            EventKind::Interrupted => 3,
+        }
+    }
+}
+
+impl From<Ending> for EventKind {
+    ghost from_gives = { λ ending kind. kind_number kind ≡ ending_number ending };
+
+    fn from(ending: Ending) -> EventKind {
+        match ending {
+            Ending::Completed => EventKind::Completed,
+            Ending::Interrupted => EventKind::Interrupted,
+        }
+    }
+}
 
 // An event word.
-pub fn word(kind: u64, address: u64, value: u64) -> u64
-    requires { (kind < 4) × (address < 65536) × (value < 65536) }
-    ensures { result ≡ word kind address value }
+#[tactic(auto, unfolding(settle::specs::Settling::word))]
+pub fn word(kind: EventKind, address: u16, value: u16) -> u64
+    ensures { result ≡ word (kind_number kind) address value }
 {
-    kind * 4294967296 + address * 65536 + value
+    u64::from(kind) * 4294967296 + u64::from(address) * 65536 + u64::from(value)
 }
 
 // The event word of a byte.
@@ -32,7 +62,7 @@ fn byte_word(address: usize, value: u8) -> u64
     requires { address < array_bytes }
     ensures { result ≡ word byte_kind address value }
 {
-    word(BYTE, address as u64, value as u64)
+    word(EventKind::Byte, address as u16, u16::from(value))
 }
 
 // A page takes its bytes; each change is an event. The answer is the count after.
@@ -47,8 +77,7 @@ fn store_page(
     ensures { (array.new ≡ spanned address (address + page_bytes) (λ a. at bytes.now (a - address)) array.old) × (events.new ≡ sets events.old count (changes 0 array.old array.new)) × (result ≡ count + length (changes 0 array.old array.new)) }
 {
     let mut n = count;
-    let mut i: usize = 0;
-    while i < PAGE {
+    for i in 0..PAGE {
         let old = array[address + i];
         let value = bytes[i];
         if old != value {
@@ -56,7 +85,6 @@ fn store_page(
             events[n] = byte_word(address + i, value);
             n += 1;
         }
-        i += 1;
     }
     n
 }
@@ -104,19 +132,17 @@ pub fn expose(
         return 0;
     }
     let limits = ceilings(Sense::Normal);
-    let first = pulse.first as usize;
-    let number = pulse.pages as usize;
+    let first = usize::from(pulse.first);
+    let number = usize::from(pulse.pages);
     let mut next = opened(indices);
     let mut count: usize = 0;
-    let mut i: usize = 0;
-    while i < number {
+    for i in 0..number {
         let page = first + i;
         let slot = charge_page(indices, array, charges, page, next, pulse, latch, exposure);
         if slot == next {
             next += 1;
         }
         count = resense_page(array, charges, events, &limits, slot, page, count);
-        i += 1;
     }
     count
 }

@@ -27,7 +27,8 @@ use Rattle.layout.proofs.Accepted.{placed-says, placed-told, accepted-writes-bac
 use Rattle.lent.proofs.Fitted.{Sizes, sizes-fit}
 use Rattle.lent.proofs.Lines.{line}
 use Rattle.lent.specs.Memory.{Memory, chip_in, misfits, last_second, too_early}
-use Rattle.borsh.specs.Borsh.{Read, got}
+use Rattle.borsh.specs.Borsh.{Read}
+use Rattle.std.specs.Prelude.{Ok}
 use Rattle.snapshot.specs.Snapshot.{ChargePage, Contents, snapshot, contents_of, snapshot_of, state_fields, state_of, indexed, cells_of, flash_in}
 use Rattle.snapshot.specs.Asked.{pending_placed, valid, judged, read_refusal, restored, memory_read}
 use Rattle.snapshot.specs.Claim.{Bytes, in_use, Whole, Snapshots}
@@ -141,7 +142,7 @@ module _ (m : Memory) (w : Whole m) where
         state = state-good s (decoded-fits m.bytes w.record_bytes);
       }
 
-  reads-back : snapshot.read (snapshot_of (chip_in m)) ≡ got (contents_of (chip_in m)) []
+  reads-back : snapshot.read (snapshot_of (chip_in m)) ≡ Ok (contents_of (chip_in m), [])
   unfolding snapshot_of
   reads-back = rw (append-nil (snapshot.write (contents_of (chip_in m)))) at (snapshot-lawful.back (contents_of (chip_in m)) good [])
 
@@ -211,8 +212,8 @@ module _ (v : Contents) (g : GoodContents v) (t : Time) (ok : valid t (flash_in 
       }
 
 module _ (bytes : List ℕ) (m : Memory) (t : Time) (b : Bytes bytes) where
-  taken-same : (v : Contents) (rest : List ℕ) → snapshot.read bytes ≡ got v rest → misfits m ≡ false → judged t (got v rest) ≡ 0
-      → (snapshot_of (chip_in (restored (got v rest) m)) ≡ bytes) × Whole (restored (got v rest) m)
+  taken-same : (v : Contents) (rest : List ℕ) → snapshot.read bytes ≡ Ok (v, rest) → misfits m ≡ false → judged t (Ok (v, rest)) ≡ 0
+      → (snapshot_of (chip_in (restored (Ok (v, rest)) m)) ≡ bytes) × Whole (restored (Ok (v, rest)) m)
   unfolding snapshot_of
   taken-same v [] e f j =
       let x = snapshot-lawful.exact bytes b v [] e in

@@ -14,15 +14,16 @@ use Rattle.cell.specs.Cell.{at}
 use Rattle.layout.specs.Layout.{word, row, flag_of}
 use Rattle.layout.proofs.Widths.{word-one}
 use Rattle.std.specs.Prelude.{Some, None}
-use Rattle.borsh.specs.Borsh.{Read, got, refused, next, Borsh, int, only, mapped, enum, bool, ◌then◌, option, read_all, array}
+use Rattle.borsh.specs.Borsh.{Read, next, Borsh, int, only, mapped, enum, bool, ◌then◌, option, read_all, array}
+use Rattle.std.specs.Prelude.{Ok, Err}
 use Rattle.snapshot.specs.Asked.{first}
 use Rattle.snapshot.specs.Places.{end_number, bytes_number}
 
 -- ---- what reading gives
 
 abbrev pub tell : {A : Type 0} → ℕ → A → List ℕ → Read A
-tell zero v rest = got v rest
-tell (suc n) v rest = refused (suc n)
+tell zero v rest = Ok (v, rest)
+tell (suc n) v rest = Err (suc n)
 
 -- reading on, of which nothing need be known after a refusal
 pub next-tell : {A B : Type 0} (f : A → List ℕ → Read B) (n m : ℕ) (v : A) (rest : List ℕ) (w : B) (end : List ℕ)
@@ -31,7 +32,7 @@ next-tell f zero m v rest w end h = h refl
 next-tell f (suc n) m v rest w end h = refl
 
 -- where the value is only made into another
-pub tell-map : {A B : Type 0} (f : A → B) (n : ℕ) (v : A) (rest : List ℕ) → next (λ a r. got (f a) r) (tell n v rest) ≡ tell n (f v) rest
+pub tell-map : {A B : Type 0} (f : A → B) (n : ℕ) (v : A) (rest : List ℕ) → next (λ a r. Ok (f a, r)) (tell n v rest) ≡ tell n (f v) rest
 tell-map f zero v rest = refl
 tell-map f (suc n) v rest = refl
 
@@ -90,7 +91,7 @@ module _ (xs : List ℕ) (base : ℕ) where
       q = base + (a + n)
 
       by : (b : Bool) → ltb (length xs) q ≡ b
-          → cond (ltb (length xs - p) n) (refused 9) (got (word n xs p) (drop q xs)) ≡ tell (cond b 9 0) (word n xs p) (drop q xs)
+          → cond (ltb (length xs - p) n) (Err 9) (Ok (word n xs p, drop q xs)) ≡ tell (cond b 9 0) (word n xs p) (drop q xs)
       by true e = let l = ltb-true (length xs) q e in rw (lt-ltb (length xs - p) n (omega arith))
       by false e = let l = ltb-false (length xs) q e in rw (le-ltb (length xs - p) n (omega arith))
 
@@ -100,7 +101,7 @@ module _ {xs : List ℕ} {base : ℕ} where
   unfolding only
   only-reads ok {n = n} {v = v} {c = c} h = record { told = rw h.told (next-tell _ n _ v _ v _ (λ e. by (ok v))) }
     where
-      by : (b : Bool) → cond b (got v (drop (base + c) xs)) (refused 10) ≡ tell (cond b 0 10) v (drop (base + c) xs)
+      by : (b : Bool) → cond b (Ok (v, drop (base + c) xs)) (Err 10) ≡ tell (cond b 0 10) v (drop (base + c) xs)
       by true = refl
       by false = refl
 
@@ -175,7 +176,7 @@ pub option-reads : {xs : List ℕ} {base : ℕ} {A : Type 0} {f : Borsh A} {a n 
 unfolding option
 option-reads {xs} {base} {A} {f} {a} {n} {b} {c} {m} {v} {d} h k = record { told = rw h.told (next-tell _ n _ b _ _ _ (λ e. by b)) }
   where
-    by : (b : Bool) → cond b (next (λ v end. got (Some v) end) (f.read (drop (base + c) xs))) (got None (drop (base + c) xs))
+    by : (b : Bool) → cond b (next (λ v end. Ok (Some v, end)) (f.read (drop (base + c) xs))) (Ok (None, drop (base + c) xs))
         ≡ tell (cond b m 0) (cond b (Some v) None) (drop (base + cond b d c) xs)
     by true = rw k.told (tell-map Some m v _)
     by false = refl

@@ -17,7 +17,8 @@ use Rattle.flash.specs.Chip.{no_pages}
 use Rattle.layout.specs.Layout.{row}
 use Rattle.layout.proofs.Widths.{word-one}
 use Rattle.lent.specs.Memory.{Memory}
-use Rattle.borsh.specs.Borsh.{Borsh, got}
+use Rattle.borsh.specs.Borsh.{Borsh}
+use Rattle.std.specs.Prelude.{Ok}
 use Rattle.snapshot.specs.Snapshot.{Contents, snapshot, flash_in}
 use Rattle.snapshot.specs.Asked.{first, judged, restored}
 use Rattle.snapshot.specs.Places.{count_place, pages_place, count_in, state_place, end_number, bytes_number, option_limits, supply_limits, control_limits, count_number, pages_number, state_number, state_length, scan_number, flash_read, place_judged, place_restored}
@@ -85,7 +86,7 @@ judged-by-place t xs small = rw (snapshot-read xs small) (by (scan_number xs))
 
 -- what is judged good was read
 pub judged-got : (t : Time) (xs : List ℕ) → ((k : ℕ) → at xs k < 256) → judged t (snapshot.read xs) ≡ 0
-    → (v : Contents) × ((rest : List ℕ) × (snapshot.read xs ≡ got v rest))
+    → (v : Contents) × ((rest : List ℕ) × (snapshot.read xs ≡ Ok (v, rest)))
 judged-got t xs small e =
     let h = (first-zero (scan_number xs) (place_judged t xs) (sym (judged-by-place t xs small) ∙ e)).0 in
     (contents xs small, (drop (state_place xs + state_length xs (state_place xs)) xs, snapshot-read xs small ∙ rw h))

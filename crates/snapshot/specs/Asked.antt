@@ -10,7 +10,8 @@ use Rattle.control.specs.declared.PendingSense.{PendingSense}
 use Rattle.flash.specs.declared.Flash.{Flash}
 use Rattle.layout.specs.Layout.{encoded, decoded, flag_byte, control_clear, placed, legible, rows_in, refused3}
 use Rattle.lent.specs.Memory.{Memory, chip_in, check, first_given, record_misfits, misfits, last_second}
-use Rattle.borsh.specs.Borsh.{Read, got, refused}
+use Rattle.borsh.specs.Borsh.{Read}
+use Rattle.std.specs.Prelude.{Ok, Err}
 use Rattle.snapshot.specs.Snapshot.{Contents, snapshot, snapshot_of, cells_of, flash_in}
 
 -- ---- `validate`
@@ -55,16 +56,16 @@ first (suc k) n = suc k
 
 -- 9 and 10 by the first offending field in reading order; 11, bytes left over; 12, `validate` says no.
 abbrev pub judged : Time → Read Contents → ℕ
-judged t (refused n) = n
-judged t (got v rest) = first_given (check 11 (ltb 0 (length rest)) ∷ check 12 (not (valid t (flash_in v))) ∷ [])
+judged t (Err n) = n
+judged t (Ok (v, rest)) = first_given (check 11 (ltb 0 (length rest)) ∷ check 12 (not (valid t (flash_in v))) ∷ [])
 
 unfoldable pub read_refusal : Time → List ℕ → Memory → ℕ
 read_refusal t bytes m = first (first_given (check 2 (misfits m) ∷ check 5 (last_second t) ∷ [])) (judged t (snapshot.read bytes))
 
 -- Slots not in use keep their numbers.
 abbrev pub restored : Read Contents → Memory → Memory
-restored (refused n) m = m
-restored (got v rest) m =
+restored (Err n) m = m
+restored (Ok (v, rest)) m =
     record { bytes = encoded (flash_in v); array = v.0; charges = sets m.charges 0 (cells_of v.1.0) }
 
 abbrev pub memory_read : ℕ → List ℕ → Memory → Memory

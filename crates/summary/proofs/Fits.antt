@@ -1,7 +1,8 @@
 -- No report is longer than 9,214 bytes, so a slice of that many holds every one whole. A template filled is no longer than its bytes with
 -- each number at all of its places and each word at its length, and so many lines are no longer than so many times the longest.
 -- Assumes nothing.
-use mathlib.Core.Path.{◌≡◌, sym, ◌∙◌}
+use Rattle.std.specs.Prelude.{Ok}
+use mathlib.Core.Path.{◌≡◌}
 use mathlib.Core.Bool.{Bool, true, false, cond, not, ◌&&◌, ◌||◌}
 use mathlib.Core.List.{List, [], ◌∷◌}
 use Prim.Native.Nat.{ℕ, zero, suc, ◌+◌, ◌-◌, ◌*◌, ◌/◌, ◌≤◌}
@@ -141,7 +142,6 @@ module _ (c : Counts) (j : Judged) (map : Bool) (t : Time) (k : Chip) where
   report-most = summary-most c (image_at t k) map (marks_at t k) j
 
   -- so up to where it ends in a slice of that many stands the report and nothing else
-  pub report-whole : (refusal : ℕ) (out left : List ℕ) (number end : ℕ) → Reports refusal (report_text c j map t k) out left number end
-      → number ≡ 0 → 9214 ≤ length out → take end left ≡ report_text c j map t k
-  report-whole refusal out left number end r z h =
-      puts_whole (report_text c j map t k) out left end (omega (arith, report-most)) (r.told (sym r.number_is ∙ z))
+  pub report-whole : (refusal : ℕ) (out left : List ℕ) (end : ℕ) → Reports refusal (report_text c j map t k) out left (Ok end)
+      → 9214 ≤ length out → take end left ≡ report_text c j map t k
+  report-whole refusal out left end r h = puts_whole (report_text c j map t k) out left end (omega (arith, report-most)) r.1

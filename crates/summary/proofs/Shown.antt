@@ -1,10 +1,10 @@
 -- A look that writes to an output of its answer's length: its refusal is that of the look alone, and where nothing is refused the output
 -- holds the answer alone. So a report of what looks showed is the report on the chip. Assumes nothing.
-use mathlib.Core.Path.{◌≡◌, refl, sym, ◌∙◌}
-use mathlib.Core.Logic.{◌≢◌}
+use mathlib.Core.Path.{◌≡◌, sym, ◌∙◌}
 use mathlib.Core.Bool.{Bool, false}
 use mathlib.Core.List.{List}
 use Prim.Native.Nat.{ℕ}
+use Rattle.std.specs.Prelude.{Ok}
 use native.Mathlib.Omega.{arith}
 use lib.ListN.{length, replicate, length-replicate}
 use lib.Seq.{ext_get_or}
@@ -17,7 +17,7 @@ use Rattle.lent.specs.Memory.{Memory, chip_in}
 use Rattle.lent.specs.Looked.{look_refusal, image_refusal, image_left}
 use Rattle.text.specs.Puts.{Puts}
 use Rattle.picture.specs.Marks.{mark_at}
-use Rattle.picture.specs.Outputs.{output_refusal, output_left, written}
+use Rattle.picture.specs.Outputs.{output_refusal, written}
 use Rattle.picture.proofs.Roomed.{long-enough}
 use Rattle.picture.proofs.Written.{length-written, written_at}
 use Rattle.verdict.proofs.Images.{image-refusal, image-seen}
@@ -25,9 +25,6 @@ use Rattle.summary.specs.declared.Counts.{Counts}
 use Rattle.summary.specs.declared.Judged.{Judged}
 use Rattle.summary.specs.Summary.{map_text, summary_text}
 use Rattle.summary.specs.Reported.{Shows, marks_at, report_text, Reports}
-
-pub reports-refused : {refusal number : ℕ} (text out : List ℕ) → number ≡ refusal → number ≢ 0 → Reports refusal text out out number 0
-reports-refused text out e n = record { number_is = e; told = λ z. absurd (n (e ∙ z)); untold = λ _. (refl, refl) }
 
 -- an output of which every byte is written
 all-written : (g : ℕ → ℕ) (n : ℕ) (out : List ℕ) → length out ≡ n → written g n out ≡ tabulate g n
@@ -47,14 +44,13 @@ module _ (t : Time) (m : Memory) where
 
   -- ---- the marks
 
-  marks-roomed : (out : List ℕ) → length out ≡ 384 → look_refusal false t m ≡ 0 → output_refusal 384 t (length out) m ≡ 0
+  pub marks-refusal : (room : ℕ) → room ≡ 384 → output_refusal 384 t room m ≡ look_refusal false t m
   unfolding output_refusal
-  marks-roomed out l z = sym (long-enough 384 (length out) (look_refusal false t m) refl z (omega arith))
+  marks-refusal room l = long-enough 384 room (look_refusal false t m) (omega arith)
 
-  pub marks-shown : (out left : List ℕ) (n : ℕ) → length out ≡ 384 → n ≡ output_refusal 384 t (length out) m
-      → left ≡ output_left n (mark_at t (chip_in m)) 384 out → look_refusal false t m ≡ 0 → left ≡ marks_at t (chip_in m)
+  pub marks-shown : (out left : List ℕ) → length out ≡ 384 → left ≡ written (mark_at t (chip_in m)) 384 out → left ≡ marks_at t (chip_in m)
   unfolding marks_at
-  marks-shown out left n l e d z = d ∙ rw (e, marks-roomed out l z) (all-written (mark_at t (chip_in m)) 384 out l)
+  marks-shown out left l d = d ∙ all-written (mark_at t (chip_in m)) 384 out l
 
   -- ---- the report
 
@@ -63,16 +59,12 @@ module _ (t : Time) (m : Memory) where
   unfolding summary_text report_text
   text-shown c image map marks j e d = rw (e, d)
 
-  -- of a look that is not refused, from what it showed
-  pub reports-shown : (c : Counts) (j : Judged) (map : Bool) (image marks out left : List ℕ) (n end : ℕ) → n ≡ 0
-      → Shows (look_refusal false t m) (image_at t (chip_in m)) n image
-      → (look_refusal false t m ≡ 0 → map_text map marks ≡ map_text map (marks_at t (chip_in m)))
+  -- of looks that are not refused, from what they showed
+  pub reports-shown : (c : Counts) (j : Judged) (map : Bool) (image marks out left : List ℕ) (end : ℕ)
+      → Shows (look_refusal false t m) (image_at t (chip_in m)) 0 image
+      → map_text map marks ≡ map_text map (marks_at t (chip_in m))
       → Puts (summary_text c image map marks j) 0 out left end
-      → Reports (look_refusal false t m) (report_text c j map t (chip_in m)) out left 0 end
-  reports-shown c j map image marks out left n end e seen marked p =
-      let z = sym seen.number_is ∙ e in
-      record {
-        number_is = sym z;
-        told = λ _. rw (text-shown c image map marks j (seen.answer_is z) (marked z)) at p;
-        untold = λ refused. absurd (refused z);
-      }
+      → Reports (look_refusal false t m) (report_text c j map t (chip_in m)) out left (Ok end)
+  reports-shown c j map image marks out left end seen marked p =
+      let z = sym seen.number_is in
+      (z, rw (text-shown c image map marks j (seen.answer_is z) marked) at p)

@@ -1,6 +1,8 @@
 -- The report on lent memory at a time: the look's refusal, or the text of what the look shows.
 -- Assumes nothing.
-use Rattle.std.specs.Prelude.{ℕ, ◌≡◌, Bool, List}
+use Rattle.std.specs.Prelude.{ℕ, ◌≡◌, Bool, List, Result, Ok, Err}
+use Rattle.refusal.specs.declared.Refusal.{Refusal}
+use Rattle.refusal.specs.Refusal.{number}
 use Rattle.time.specs.declared.Time.{Time}
 use Rattle.cell.specs.Cell.{pages, tabulate}
 use Rattle.flash.specs.Chip.{Chip}
@@ -24,8 +26,7 @@ marks_at t k = tabulate (mark_at t k) pages
 unfoldable pub report_text : Counts → Judged → Bool → Time → Chip → List ℕ
 report_text c j map t k = summary_text c (image_at t k) map (marks_at t k) j
 
--- What a report leaves: the look's refusal as its number; where that is 0 the text, from the slice's start on; else the slice as it was.
-pub record Reports (refusal : ℕ) (text out left : List ℕ) (number end : ℕ) : Type 0 where
-  pub number_is : number ≡ refusal
-  pub told : refusal ≡ 0 → Puts text 0 out left end
-  pub untold : (refusal ≡ 0 → ⊥) → (left ≡ out) × (end ≡ 0)
+-- What a report leaves: the text, from the slice's start up to the place that is given back; on the look's refusal the slice as it was.
+abbrev pub Reports : ℕ → List ℕ → List ℕ → List ℕ → Result ℕ Refusal → Type 0
+Reports refusal text out left (Ok end) = (refusal ≡ 0) × Puts text 0 out left end
+Reports refusal text out left (Err r) = (number r ≡ refusal) × (left ≡ out)

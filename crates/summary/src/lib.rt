@@ -1,7 +1,8 @@
 // The report of a run, put together in a lent slice. What does not fit is cut off at the slice's end, so no function asks for room.
 #![tactic(auto)]
 
-ghost use Rattle.std.specs.Prelude.{◌≡◌, false};
+ghost use Rattle.std.specs.Prelude.{◌≡◌, false, MatchResult};
+ghost use Rattle.refusal.specs.Refusal.{number, told};
 ghost use Rattle.flash.specs.Looking.{image_at};
 ghost use Rattle.lent.specs.Memory.{chip_in};
 ghost use Rattle.lent.specs.Looked.{look_refusal};
@@ -15,6 +16,7 @@ use crate::mapping::put_map;
 use crate::paging::put_pages;
 use cell::{FLASH_SIZE, PAGES};
 use picture::see_marks;
+use refusal::Refusal;
 use see::see_image;
 use time::Time;
 use verdict::Tally;
@@ -40,13 +42,6 @@ pub struct Judged {
     pub pages: usize,
 }
 
-// A refusal's number, and where the report ends if it is 0.
-#[derive(Clone, Copy)]
-pub struct Reported {
-    pub number: u32,
-    pub end: usize,
-}
-
 // The report from what was counted, the image and the map's marks.
 pub fn summary(
     out: &mut [u8],
@@ -65,32 +60,37 @@ pub fn summary(
     put_judged(out, mapped, image, judged)
 }
 
-// The image at a time, in an array of its length. The answer is the refusal's number.
+// The image at a time, in an array of its length.
 fn image_at(
     image: &mut [u8; FLASH_SIZE],
     record: &[u8],
     array: &[u8],
     charges: &[u64],
     time: Time,
-) -> u32
-    ensures { Shows (look_refusal false time (record { bytes = «record».now; array = array.now; charges = charges.now })) (image_at time (chip_in (record { bytes = «record».now; array = array.now; charges = charges.now }))) result image.new }
+) -> Result<(), Refusal>
+    ensures { Shows (look_refusal false time (record { bytes = «record».now; array = array.now; charges = charges.now })) (image_at time (chip_in (record { bytes = «record».now; array = array.now; charges = charges.now }))) (told result) image.new }
 {
     see_image(record, array, charges, time, image)
 }
 
 // The marks of all pages at a time, where the map is asked for.
-fn marks_for(map: bool, record: &[u8], array: &[u8], charges: &[u64], time: Time) -> [u8; PAGES]
-    ensures { look_refusal false time (record { bytes = «record».now; array = array.now; charges = charges.now }) ≡ 0 → map_text map result ≡ map_text map (marks_at time (chip_in (record { bytes = «record».now; array = array.now; charges = charges.now }))) }
+fn marks_for(
+    map: bool,
+    record: &[u8],
+    array: &[u8],
+    charges: &[u64],
+    time: Time,
+) -> Result<[u8; PAGES], Refusal>
+    ensures { MatchResult result (λ marks. map_text map marks ≡ map_text map (marks_at time (chip_in (record { bytes = «record».now; array = array.now; charges = charges.now })))) (λ refusal. number refusal ≡ look_refusal false time (record { bytes = «record».now; array = array.now; charges = charges.now })) }
 {
     let mut marks = [0u8; PAGES];
     if map {
-        see_marks(record, array, charges, time, &mut marks);
-        return marks;
+        see_marks(record, array, charges, time, &mut marks)?;
     }
-    marks
+    Ok(marks)
 }
 
-// The report on lent memory at a time.
+// The report on lent memory at a time: where its text ends.
 pub fn report(
     out: &mut [u8],
     counts: Counts,
@@ -100,20 +100,11 @@ pub fn report(
     array: &[u8],
     charges: &[u64],
     time: Time,
-) -> Reported
-    ensures { Reports (look_refusal false time (record { bytes = «record».now; array = array.now; charges = charges.now })) (report_text counts judged map time (chip_in (record { bytes = «record».now; array = array.now; charges = charges.now }))) out.old out.new result.number result.end }
+) -> Result<usize, Refusal>
+    ensures { Reports (look_refusal false time (record { bytes = «record».now; array = array.now; charges = charges.now })) (report_text counts judged map time (chip_in (record { bytes = «record».now; array = array.now; charges = charges.now }))) out.old out.new result }
 {
     let mut image = [0u8; FLASH_SIZE];
-    let number = image_at(&mut image, record, array, charges, time);
-    if number != 0 {
-        return Reported {
-            number: number,
-            end: 0,
-        };
-    }
-    let marks = marks_for(map, record, array, charges, time);
-    Reported {
-        number: 0,
-        end: summary(out, 0, counts, &image, map, &marks, judged),
-    }
+    image_at(&mut image, record, array, charges, time)?;
+    let marks = marks_for(map, record, array, charges, time)?;
+    Ok(summary(out, 0, counts, &image, map, &marks, judged))
 }

@@ -14,6 +14,8 @@ use Rattle.time.specs.Raw.{raw, span, instant, duration, micros, later, plus, ad
 use Rattle.time.specs.declared.Time.{Time}
 use Rattle.time.specs.declared.Duration.{Duration}
 use Rattle.std.specs.Prelude.{Some, None}
+use Rattle.std.proofs.Common.{Ordering, Less, Equal, Greater}
+use Rattle.std.specs.Ordering.{is_lt, is_ge, ordering_then, nat_cmp}
 
 -- two halves over any base
 module _ (w a b c d : ℕ) where
@@ -107,12 +109,31 @@ pub earlier-ltb : (s t : Time) → s.1 < 2 ^ 64 → t.1 < 2 ^ 64 → (ltb s.0 t.
 unfolding raw
 earlier-ltb s t = halves-ltb (2 ^ 64) s.0 s.1 t.0 t.1
 
+-- the derived order, of the seconds and then of the fractions, is that of the raw units
+tests : (p q r s : Bool) → is_lt (ordering_then (cond p Less (cond q Equal Greater)) (cond r Less (cond s Equal Greater))) ≡ (p || (q && r))
+tests true q r s = refl
+tests false true true s = refl
+tests false true false true = refl
+tests false true false false = refl
+tests false false r s = refl
+
+pub derived-ltb : (s t : Time) → s.1 < 2 ^ 64 → t.1 < 2 ^ 64 → is_lt (ordering_then (nat_cmp s.0 t.0) (nat_cmp s.1 t.1)) ≡ ltb (raw s) (raw t)
+derived-ltb s t h k = tests (ltb s.0 t.0) (eqb s.0 t.0) (ltb s.1 t.1) (eqb s.1 t.1) ∙ earlier-ltb s t h k
+
 pub not-ltb : (a b : ℕ) → not (ltb a b) ≡ leb b a
 not-ltb a b = by (ltb a b) refl
   where
     by : (p : Bool) → ltb a b ≡ p → not p ≡ leb b a
     by true e = sym (lt-leb b a (ltb-true a b e))
     by false e = sym (le-leb b a (ltb-false a b e))
+
+pub derived-leb : (s t : Time) → s.1 < 2 ^ 64 → t.1 < 2 ^ 64 → is_ge (ordering_then (nat_cmp s.0 t.0) (nat_cmp s.1 t.1)) ≡ leb (raw t) (raw s)
+derived-leb s t h k = by (ordering_then (nat_cmp s.0 t.0) (nat_cmp s.1 t.1)) ∙ ap not (derived-ltb s t h k) ∙ not-ltb (raw s) (raw t)
+  where
+    by : (o : Ordering) → is_ge o ≡ not (is_lt o)
+    by Less = refl
+    by Equal = refl
+    by Greater = refl
 
 -- what a test by a function that answers `ltb a b` shows
 pub tested : {r : Bool} (a b : ℕ) → r ≡ ltb a b → r ≡ true → a < b

@@ -6,11 +6,11 @@ ghost use Rattle.std.specs.Prelude.{◌≡◌, ◌<◌, ltb, leb, eqb};
 ghost use Rattle.time.specs.Raw.{raw, span, later, added, after, since, micros, micros_per_second, BeforeLastSecond};
 
 // An instant: whole seconds, and a fraction of a second.
-#[derive(Clone, Copy)]
+#[derive(Clone, Copy, Debug, PartialEq, Eq, PartialOrd, Ord)]
 pub struct Time(pub u64, pub u64);
 
 // A length of time, in the same units. A kind of its own: nothing takes one for the other.
-#[derive(Clone, Copy)]
+#[derive(Clone, Copy, Debug, PartialEq, Eq, PartialOrd, Ord)]
 pub struct Duration(pub u64, pub u64);
 
 const MICROS: u64 = 1_000_000;
@@ -20,23 +20,21 @@ impl Time {
     pub fn earlier(self, other: Time) -> bool
         ensures { result ≡ ltb (raw self) (raw other) }
     {
-        let a = self.0;
-        let c = other.0;
-        (a < c) | ((a == c) & (self.1 < other.1))
+        self < other
     }
 
     // Whether this instant is at or past another.
     pub fn reached(self, at: Time) -> bool
         ensures { result ≡ leb (raw at) (raw self) }
     {
-        !self.earlier(at)
+        self >= at
     }
 
     // The later of two instants.
     pub fn max(self, other: Time) -> Time
         ensures { result ≡ later self other }
     {
-        if self.earlier(other) { other } else { self }
+        if self < other { other } else { self }
     }
 
     // The instant a length of time after this one, or none where it would pass the last instant.
@@ -92,6 +90,6 @@ impl Duration {
     pub fn is_zero(self) -> bool
         ensures { result ≡ eqb (span self) 0 }
     {
-        (self.0 == 0) & (self.1 == 0)
+        self == Duration(0, 0)
     }
 }

@@ -3,10 +3,9 @@
 -- Assumes nothing.
 use Prim.Native.Nat.{ℕ, ◌+◌, ◌<◌, ◌-◌, ◌*◌, ◌^◌, min}
 use mathlib.Core.List.{List}
-use mathlib.Core.Path.{◌≡◌, refl, sym, ◌∙◌}
+use mathlib.Core.Path.{◌≡◌, sym, ◌∙◌}
 use native.Mathlib.Nat.{add-zero}
 use native.Mathlib.Omega.{arith}
-use lib.ListN.{length-set}
 use Rattle.time.specs.Raw.{span}
 use Rattle.cell.specs.Cell.{at, mapi, rate, page_bit, charged_page}
 use Rattle.cell.specs.declared.Direction.{Direction}
@@ -22,76 +21,29 @@ clipped-page :
 unfolding charged_page
 clipped-page d latch l a qs e h = mapi-same _ _ qs (λ k g. clipped-exposes d (page_bit latch k) l a (at qs k) e (h k))
 
-pub loop-i-init : goal.loop-i-init
-loop-i-init c = (omega arith, c.requires, refl)
-
-pub bounds-latch-i : goal.bounds-latch-i
-bounds-latch-i c = omega arith
-
 pub loop-k-init : goal.loop-k-init
-loop-k-init c = (omega arith, c.loop-i.invariant.1, λ xs e. rw add-zero e)
-
-pub overflow_mul-j : goal.overflow_mul-j
-overflow_mul-j c = omega arith
-
-pub overflow_add-j : goal.overflow_add-j
-overflow_add-j c = omega arith
-
-pub offset_bounds-cells-j : goal.offset_bounds-cells-j
-offset_bounds-cells-j c = omega arith
-
-pub bounds-cells-j : goal.bounds-cells-j
-bounds-cells-j c = omega arith
-
-pub bit-requires : goal.bit-requires
-bit-requires c = omega arith
-
-pub offset_bounds-cells-j-in-loop-k : goal.offset_bounds-cells-j-in-loop-k
-offset_bounds-cells-j-in-loop-k c = omega arith
-
-pub bounds-cells-j-in-loop-k : goal.bounds-cells-j-in-loop-k
-bounds-cells-j-in-loop-k c = omega arith
-
-pub overflow_add-k : goal.overflow_add-k
-overflow_add-k c = omega arith
-
-pub loop-k-smaller : goal.loop-k-smaller
-loop-k-smaller c = omega arith
+loop-k-init c = λ xs e. rw add-zero e
 
 pub loop-k-preserved : goal.loop-k-preserved
 loop-k-preserved c =
     let l = c.loop-k in
     let i = c.loop-i.i in
-    let n : 8 * i + (l.k + 1) ≡ 8 * i + l.k + 1 = omega arith in (
-      omega arith,
-      simp length-set l.invariant.1,
-      λ xs e.
-          rw n (partly-turn (ruled c.args.direction c.args.latch.now c.amount-by.result) (8 * i + l.k) xs l.cells _ (l.invariant.2 xs e)
-          (c.moved.ensures ∙ rw (c.bit.ensures, cell-bit _ i l.k (omega arith)))),
-    )
-
-pub overflow_add-i : goal.overflow_add-i
-overflow_add-i c = omega arith
-
-pub loop-i-smaller : goal.loop-i-smaller
-loop-i-smaller c = omega arith
+    let n : 8 * i + (l.k + 1) ≡ 8 * i + l.k + 1 = omega arith in
+    λ xs e.
+    rw n (partly-turn (ruled c.args.direction c.args.latch.now c.amount-by.result) (8 * i + l.k) xs l.cells _ (l.invariant xs e)
+    (c.moved.ensures ∙ rw (c.bit.ensures, cell-bit _ i l.k (omega arith))))
 
 pub loop-i-preserved : goal.loop-i-preserved
 loop-i-preserved c =
-    let l = c.loop-k in
-    let o = c.loop-i in
-    let e : 8 * (o.i + 1) ≡ 8 * o.i + l.k = omega arith in
-    (omega arith, l.invariant.1, rw e (l.invariant.2 _ o.invariant.2))
-
-pub shape_of-cells : goal.shape_of-cells
-shape_of-cells c = c.loop-i.invariant.1 ∙ sym c.requires
+    let e : 8 * (c.loop-i.i + 1) ≡ 8 * c.loop-i.i + c.loop-k.k = omega arith in
+    rw e (c.loop-k.invariant _ c.loop-i.invariant)
 
 pub returns : goal.returns
 returns c =
     let x = c.args in
     let l = c.loop-i in
     let e : 8 * l.i ≡ 1024 = omega arith in
-    l.invariant.2
+    l.invariant
     ∙ partly-all _ _ _ (e ∙ sym c.requires)
     ∙ clipped-page x.direction x.latch.now (span x.exposure) _ x.cells.now c.amount-by.ensures
     (λ k. omega (arith, c.slice_known-1.given k))

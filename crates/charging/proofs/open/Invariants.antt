@@ -1,10 +1,9 @@
 -- `charging::open` meets its contract. The invariant of both loops: the cells passed have their first charges, and the others are as
 -- they were.
 -- Assumes nothing.
-use Prim.Native.Nat.{ℕ, ◌+◌, ◌*◌, ◌≤◌, ◌-◌}
+use Prim.Native.Nat.{ℕ, ◌+◌, ◌*◌}
 use mathlib.Core.List.{List}
 use mathlib.Core.Path.{◌≡◌}
-use lib.ListN.{length}
 use Rattle.cell.specs.Cell.{page_bit, first_charge}
 use Rattle.cell.proofs.Partly.{partly, Further}
 use Rattle.charging.proofs.open.Given as goal
@@ -14,13 +13,7 @@ abbrev pub first : List ℕ → ℕ → ℕ → ℕ
 first bytes j q = first_charge (page_bit bytes j)
 
 abbrev pub invariant-loop-k : goal.invariant-loop-k
-invariant-loop-k l = (l.k ≤ 8) × (length l.cells ≡ 1024) × Further (first l.bytes) (8 * l.i) (8 * l.i + l.k) l.initial.cells l.cells
-
-abbrev pub decreases-loop-k : goal.decreases-loop-k
-decreases-loop-k l = 8 - l.k
+invariant-loop-k l = Further (first l.bytes) (8 * l.i) (8 * l.i + l.k) l.initial.cells l.cells
 
 abbrev pub invariant-loop-i : goal.invariant-loop-i
-invariant-loop-i l = (l.i ≤ 128) × (length l.cells ≡ 1024) × (l.cells ≡ partly (first l.bytes) (8 * l.i) l.initial.cells)
-
-abbrev pub decreases-loop-i : goal.decreases-loop-i
-decreases-loop-i l = 128 - l.i
+invariant-loop-i l = l.cells ≡ partly (first l.bytes) (8 * l.i) l.initial.cells

@@ -16,7 +16,7 @@ returns-then-last_second c = (
 
 pub returns-in_err-indices : goal.returns-in_err-indices
 returns-in_err-indices c =
-    rw (passed-on _ c.from_residual.ensures.1) (scan-refused _ _ _ (λ j. (c.shared_slice_known-1.given j).fits) (sym c.sizes_misfit.ensures ∙ c.if-sizes_misfit.false)
+    rw (passed-on _ c.from_residual.ensures.1) (scan-refused _ _ _ (λ j. (c.type_inv.bytes j).fits) (sym c.sizes_misfit.ensures ∙ c.if-sizes_misfit.false)
     (sym c.last_second.ensures ∙ c.if-last_second.false) _ c.in_err-indices.ensures (refused _))
 
 pub take-requires : goal.take-requires
@@ -27,5 +27,5 @@ take-requires c =
 
 pub returns : goal.returns
 returns c =
-    read-by-place _ _ _ (λ j. (c.shared_slice_known-1.given j).fits) (sym c.sizes_misfit.ensures ∙ c.if-sizes_misfit.false)
+    read-by-place _ _ _ (λ j. (c.type_inv.bytes j).fits) (sym c.sizes_misfit.ensures ∙ c.if-sizes_misfit.false)
     (sym c.last_second.ensures ∙ c.if-last_second.false) _ _ _ _ c.in_ok-indices.ensures.0 c.take.ensures.0 c.take.ensures.1

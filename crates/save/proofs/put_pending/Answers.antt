@@ -43,4 +43,4 @@ returns-in-Some c =
     let p = put_one s k 1 (omega arith) (omega arith) in
     let q = after (k + 1) (k + 1 + 2) (k + 3) (set s k 1) m _ (bytes 2 a) c.put.ensures p (omega arith) in
     let r = after (k + 3) (k + 3 + 16) (k + 19) m n _ (row_bytes 8 (t.1 ∷ t.0 ∷ [])) c.put_row.ensures q (omega arith) in
-    rw (c.in-Some.is, sense-row a t (omega (arith, c.in-Some.known_told-1-own.given))) (omega arith, r ∙ simp append_assoc)
+    rw (c.in-Some.is, sense-row a t (omega arith)) (omega arith, r ∙ simp append_assoc)

@@ -1,6 +1,6 @@
 -- `sensing::ceilings` meets its contract. The loop's invariant: each place passed holds the ceiling of the class there, which is the cell's.
 -- Assumes nothing.
-use mathlib.Core.Path.{◌≡◌, refl, ◌∙◌}
+use mathlib.Core.Path.{◌≡◌, ◌∙◌}
 use native.Mathlib.Omega.{arith}
 use lib.ListN.{replicate}
 use Rattle.cell.specs.Cell.{class_of, ceiling_of, ceiling_table}
@@ -10,35 +10,8 @@ use Rattle.cell.proofs.Partly.{partly-turn, partly-all}
 use Rattle.sensing.proofs.ceilings.Invariants.{by-class-there}
 use Rattle.sensing.proofs.ceilings.Goals as goal
 
-pub loop-i-init : goal.loop-i-init
-loop-i-init c = (omega arith, refl)
-
-pub bounds-table-i : goal.bounds-table-i
-bounds-table-i c = omega arith
-
-pub overflow_cast-c : goal.overflow_cast-c
-overflow_cast-c c = omega arith
-
-pub offset_bounds-by_class-c : goal.offset_bounds-by_class-c
-offset_bounds-by_class-c c = omega arith
-
-pub bounds-by_class-c : goal.bounds-by_class-c
-bounds-by_class-c c = omega arith
-
-pub offset_bounds-all-i : goal.offset_bounds-all-i
-offset_bounds-all-i c = omega arith
-
-pub bounds-all-i : goal.bounds-all-i
-bounds-all-i c = omega arith
-
-pub overflow_add-i : goal.overflow_add-i
-overflow_add-i c = omega arith
-
-pub loop-i-smaller : goal.loop-i-smaller
-loop-i-smaller c = omega arith
-
 pub loop-i-preserved : goal.loop-i-preserved
-loop-i-preserved c = let l = c.loop-i in (omega arith, partly-turn (by-class-there c.classes-table.result c.row-by_class.result) l.i (replicate 256 0) l.all _ l.invariant.1 refl)
+loop-i-preserved c = let l = c.loop-i in partly-turn (by-class-there c.classes-table.result c.row-by_class.result) l.i (replicate 256 0) l.all _ l.invariant (rw c.from-c.ensures)
 
 pub returns : goal.returns
 unfolding ceiling_table
@@ -46,6 +19,6 @@ returns c =
     let l = c.loop-i in
     let e : l.i ≡ 256 = omega arith in
     let rule = by-class-there c.classes-table.result c.row-by_class.result in
-    l.invariant.1
+    l.invariant
     ∙ partly-all rule (replicate 256 0) _ e
     ∙ mapi-same rule (λ k x. ceiling_of c.args.m (class_of k)) (replicate 256 0) (λ k h. rw (c.classes-table.ensures, c.row-by_class.ensures) (ceiling-by-class c.args.m k h))

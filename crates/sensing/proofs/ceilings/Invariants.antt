@@ -1,6 +1,6 @@
 -- `sensing::ceilings` meets its contract. The loop's invariant: each place passed holds the ceiling of the class there, which is the cell's.
 -- Assumes nothing.
-use Prim.Native.Nat.{ℕ, ◌≤◌, ◌-◌, ◌%◌}
+use Prim.Native.Nat.{ℕ, ◌%◌}
 use mathlib.Core.Path.{◌≡◌}
 use mathlib.Core.List.{List}
 use Rattle.cell.specs.Cell.{at}
@@ -11,7 +11,4 @@ abbrev pub by-class-there : List ℕ → List ℕ → ℕ → ℕ → ℕ
 by-class-there table row k x = at row (at table k % 16)
 
 abbrev pub invariant-loop-i : goal.invariant-loop-i
-invariant-loop-i l = (l.i ≤ 256) × (l.all ≡ partly (by-class-there l.table l.by_class) l.i l.initial.all)
-
-abbrev pub decreases-loop-i : goal.decreases-loop-i
-decreases-loop-i l = 256 - l.i
+invariant-loop-i l = l.all ≡ partly (by-class-there l.table l.by_class) l.i l.initial.all

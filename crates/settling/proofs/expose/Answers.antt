@@ -22,12 +22,6 @@ returns-then-is_zero c =
     left-none x.pulse x.latch.now (span x.exposure) k x.events.now
     (eqb-true (span x.exposure) 0 (sym c.is_zero.ensures ∙ c.if-is_zero.true))
 
-pub overflow_cast-first : goal.overflow_cast-first
-overflow_cast-first c = omega arith
-
-pub overflow_cast-number : goal.overflow_cast-number
-overflow_cast-number c = omega arith
-
 pub opened-next-requires : goal.opened-next-requires
 opened-next-requires c = c.requires.0
 
@@ -36,29 +30,26 @@ loop-i-init c =
     let x = c.args in
     let k = cells x.indices.now x.array.now x.charges.now in
     let slots = slots-from x.indices.now x.charges.now c.requires.0 c.requires.3 c.requires.1 in
-    (omega arith, turned_none x.pulse x.latch.now (span x.exposure) k x.events.now c.opened-next.result slots c.opened-next.ensures.0)
-
-pub overflow_add-page : goal.overflow_add-page
-overflow_add-page c = omega arith
+    turned_none x.pulse x.latch.now (span x.exposure) k x.events.now c.opened-next.result slots c.opened-next.ensures.0
 
 pub charge_page-slot-requires : goal.charge_page-slot-requires
 charge_page-slot-requires c =
-    let t = c.loop-i.invariant.1 in
+    let t = c.loop-i.invariant in
     let z = turned-slots t in
     (z.pages, slots-sound z, stored-length t.stored ∙ c.requires.2, z.room, omega arith, t.next_is)
 
 pub overflow_add-next : goal.overflow_add-next
 overflow_add-next c =
     let l = c.loop-i in
-    let t = l.invariant.1 in
+    let t = l.invariant in
     omega (arith, t.next_is, opened-le l.indices, (turned-slots t).pages)
 
 pub resense_page-count-requires : goal.resense_page-count-requires
 resense_page-count-requires c =
     let x = c.args in
     let l = c.loop-i in
-    let t = l.invariant.1 in
-    let e = c.charge_page-slot.ensures in
+    let t = l.invariant in
+    let e = rw c.from-first.ensures at c.charge_page-slot.ensures in
     let k : Cells = cells l.indices l.array l.charges in
     let z : SlotsOf k = turned-slots t in
     let page = x.pulse.first + l.i in (
@@ -70,46 +61,40 @@ resense_page-count-requires c =
       omega (arith, stored-le t.stored, stored-events t.stored, c.requires.5),
     )
 
-pub overflow_add-i : goal.overflow_add-i
-overflow_add-i c = omega arith
-
-pub loop-i-smaller : goal.loop-i-smaller
-loop-i-smaller c = omega arith
-
 pub loop-i-preserved : goal.loop-i-preserved
 loop-i-preserved c =
     let x = c.args in
     let l = c.loop-i in
-    let t = l.invariant.1 in
-    let e = c.charge_page-slot.ensures in
-    let r = c.resense_page-count.ensures in
+    let t = l.invariant in
+    let e = rw c.from-first.ensures at c.charge_page-slot.ensures in
+    let r = rw c.from-first.ensures at c.resense_page-count.ensures in
     let slot = c.charge_page-slot.result in
-    let inside : l.i < x.pulse.pages = omega (arith, c.loop-i-test.true) in
+    let inside : l.i < x.pulse.pages = omega arith in
     let next : c.if-slot-next.next ≡ opened (turn x.pulse x.latch.now (span x.exposure) l.i l.indices l.array l.charges).index = elim c.if-slot-next.branch [
       | then-slot-next w ↦ w.next-is ∙ turned-moves t inside c.requires.4 slot e.2 (omega arith)
       | else-slot-next w ↦ w.next-is ∙ turned-stays t inside c.requires.4 slot e.2 (omega arith)
     ] in
-    (omega arith, turned_more t inside c.requires.4 slot e.2 c.requires.2 e.0 e.1 next r.0 r.1 r.2)
+    turned_more t inside c.requires.4 slot e.2 c.requires.2 e.0 e.1 next r.0 r.1 r.2
 
 pub shape_of-indices : goal.shape_of-indices
 shape_of-indices c =
-    (turned-slots c.loop-i.invariant.1).pages ∙ sym c.requires.0
+    (turned-slots c.loop-i.invariant).pages ∙ sym c.requires.0
 
 pub shape_of-array : goal.shape_of-array
-shape_of-array c = stored-length c.loop-i.invariant.1.stored
+shape_of-array c = stored-length c.loop-i.invariant.stored
 
 pub shape_of-charges : goal.shape_of-charges
 shape_of-charges c =
-    (turned-slots c.loop-i.invariant.1).room ∙ sym c.requires.3
+    (turned-slots c.loop-i.invariant).room ∙ sym c.requires.3
 
 pub shape_of-events : goal.shape_of-events
-shape_of-events c = stored-events c.loop-i.invariant.1.stored
+shape_of-events c = stored-events c.loop-i.invariant.stored
 
 pub returns : goal.returns
 returns c =
     let x = c.args in
     let l = c.loop-i in
-    let t = l.invariant.1 in
+    let t = l.invariant in
     let e : l.i ≡ x.pulse.pages = omega arith in
     let n = eqb-false (span x.exposure) 0 (sym c.is_zero.ensures ∙ c.if-is_zero.false) in
     let k = cells x.indices.now x.array.now x.charges.now in

@@ -1,13 +1,9 @@
 -- `settling::expose` meets its contract. The loop's invariant: index, array, charges and events are those after the pages passed.
 -- Assumes nothing.
-use Prim.Native.Nat.{◌-◌, ◌≤◌}
 use Rattle.time.specs.Raw.{span}
 use Rattle.settle.proofs.Turns.{cells, Turned}
 use Rattle.settling.proofs.expose.Given as goal
 
 abbrev pub invariant-loop-i : goal.invariant-loop-i
 invariant-loop-i l =
-    (l.i ≤ l.pulse.pages) × Turned l.pulse l.latch (span l.exposure) (cells l.initial.indices l.initial.array l.initial.charges) l.initial.events l.i l.indices l.array l.charges l.events l.next l.count
-
-abbrev pub decreases-loop-i : goal.decreases-loop-i
-decreases-loop-i l = l.number - l.i
+    Turned l.pulse l.latch (span l.exposure) (cells l.initial.indices l.initial.array l.initial.charges) l.initial.events l.i l.indices l.array l.charges l.events l.next l.count

@@ -1,6 +1,6 @@
 -- `settling::store_page` meets its contract. The loop's invariant: the bytes passed are stored, with an event for each change.
 -- Assumes nothing.
-use mathlib.Core.Path.{◌≡◌, refl, ap, ◌∙◌}
+use mathlib.Core.Path.{◌≡◌, ap, ◌∙◌}
 use Prim.Native.Nat.{ℕ, suc, ◌+◌, ◌-◌, ◌<◌}
 use native.Mathlib.Nat.{add-zero}
 use native.Mathlib.Omega.{arith}
@@ -13,43 +13,7 @@ use Rattle.settling.proofs.store_page.Goals.{then-old-value, else-old-value}
 pub loop-i-init : goal.loop-i-init
 loop-i-init c =
     let x = c.args in
-    (omega arith, c.requires.0, refl, omega arith, rw (add-zero x.address) (stored-none x.array.now x.events.now x.count x.address _))
-
-pub overflow_add-old : goal.overflow_add-old
-overflow_add-old c = omega arith
-
-pub bounds-array-address : goal.bounds-array-address
-bounds-array-address c = omega arith
-
-pub bounds-bytes-i : goal.bounds-bytes-i
-bounds-bytes-i c = omega arith
-
-pub overflow_add-array : goal.overflow_add-array
-overflow_add-array c = omega arith
-
-pub bounds-array-address-then-old-value : goal.bounds-array-address-then-old-value
-bounds-array-address-then-old-value c = omega arith
-
-pub overflow_add-address : goal.overflow_add-address
-overflow_add-address c = omega arith
-
-pub byte_word-requires : goal.byte_word-requires
-byte_word-requires c = omega arith
-
-pub offset_bounds-events-n : goal.offset_bounds-events-n
-offset_bounds-events-n c = omega arith
-
-pub bounds-events-n : goal.bounds-events-n
-bounds-events-n c = omega arith
-
-pub overflow_add-n : goal.overflow_add-n
-overflow_add-n c = omega arith
-
-pub overflow_add-i : goal.overflow_add-i
-overflow_add-i c = omega arith
-
-pub loop-i-smaller : goal.loop-i-smaller
-loop-i-smaller c = omega arith
+    (omega arith, rw (add-zero x.address) (stored-none x.array.now x.events.now x.count x.address _))
 
 pub loop-i-preserved : goal.loop-i-preserved
 loop-i-preserved c =
@@ -62,20 +26,20 @@ loop-i-preserved c =
     let v : ℕ → ℕ = λ a. at x.bytes.now (a - x.address) in
     let t : Stored x.array.now x.events.now x.count x.address v (suc hi) c.if-old-value.array c.if-old-value.events c.if-old-value.n =
     elim c.if-old-value.branch [
-      | then-old-value w ↦ rw (w.array-is, w.events-is, w.n-is) (stored-changed l.invariant.4 (omega arith) in_array _ _ value (omega arith) w.byte_word.ensures)
-      | else-old-value w ↦ rw (w.array-is, w.events-is, w.n-is) (stored_same l.invariant.4 (omega arith) in_array _ value (omega arith))
+      | then-old-value w ↦ rw (w.array-is, w.events-is, w.n-is) (stored-changed l.invariant.1 (omega arith) in_array _ _ value (omega arith) w.byte_word.ensures)
+      | else-old-value w ↦ rw (w.array-is, w.events-is, w.n-is) (stored_same l.invariant.1 (omega arith) in_array _ value (omega arith))
     ] in
-    (omega arith, stored-length t ∙ c.requires.0, stored-events t, omega (arith, stored-le t), rw next t)
+    (omega (arith, stored-le t), rw next t)
 
 pub shape_of-array : goal.shape_of-array
-shape_of-array c = stored-length c.loop-i.invariant.4
+shape_of-array c = stored-length c.loop-i.invariant.1
 
 pub shape_of-events : goal.shape_of-events
-shape_of-events c = stored-events c.loop-i.invariant.4
+shape_of-events c = stored-events c.loop-i.invariant.1
 
 pub returns : goal.returns
 returns c =
     let l = c.loop-i in
     let e : l.i ≡ 128 = omega arith in
-    let s = l.invariant.4 in
+    let s = l.invariant.1 in
     (s.array_is ∙ rw e, s.events_are, s.count_is)

@@ -1,16 +1,11 @@
 -- `settling::store_page` meets its contract. The loop's invariant: the bytes passed are stored, with an event for each change.
 -- Assumes nothing.
-use mathlib.Core.Path.{◌≡◌}
 use Prim.Native.Nat.{◌+◌, ◌-◌, ◌≤◌}
-use lib.ListN.{length}
 use Rattle.cell.specs.Cell.{at}
 use Rattle.settle.proofs.Stored.{Stored}
 use Rattle.settling.proofs.store_page.Given as goal
 
 abbrev pub invariant-loop-i : goal.invariant-loop-i
 invariant-loop-i l =
-    (l.i ≤ 128) × (length l.array ≡ 49152) × (length l.events ≡ length l.initial.events) × (l.n ≤ l.count + l.i)
+    (l.n ≤ l.count + l.i)
     × Stored l.initial.array l.initial.events l.count l.address (λ a. at l.bytes (a - l.address)) (l.address + l.i) l.array l.events l.n
-
-abbrev pub decreases-loop-i : goal.decreases-loop-i
-decreases-loop-i l = 128 - l.i

@@ -1,15 +1,20 @@
 -- `summary::marks_for` meets its contract: the output of the look is as long as its answer, so it holds the marks alone.
 -- Assumes nothing.
-use mathlib.Core.Path.{refl}
+use mathlib.Core.Path.{refl, ◌∙◌}
+use Rattle.refusal.proofs.Outcomes.{passed-on}
 use Rattle.summary.specs.Summary.{map_text}
-use Rattle.summary.proofs.Shown.{marks-shown}
+use Rattle.summary.proofs.Shown.{marks-refusal, marks-shown}
 use Rattle.summary.proofs.marks_for.Goals as goal
 
-pub returns-then-map : goal.returns-then-map
-returns-then-map c z =
-    let seen = c.see_marks in
-    rw (marks-shown _ _ _ _ seen.result refl seen.ensures.0 seen.ensures.1 z)
+pub returns-in_err-see_marks : goal.returns-in_err-see_marks
+returns-in_err-see_marks c =
+    rw (passed-on _ c.from_residual.ensures.1) (c.in_err-see_marks.ensures.0 ∙ marks-refusal _ _ _ refl)
 
-pub returns : goal.returns
+pub returns-in_ok-see_marks : goal.returns-in_ok-see_marks
+returns-in_ok-see_marks c =
+    let seen = c.in_ok-see_marks.ensures in
+    rw (marks-shown _ _ _ _ refl seen.1)
+
+pub returns-else-map : goal.returns-else-map
 unfolding map_text
-returns c z = rw c.if-map.false
+returns-else-map c = rw c.if-map.false

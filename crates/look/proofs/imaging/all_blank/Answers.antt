@@ -10,10 +10,7 @@ use Rattle.flash.proofs.Look.{blank_turn}
 use Rattle.look.proofs.imaging.all_blank.Goals as goal
 
 pub loop-i-init : goal.loop-i-init
-loop-i-init c = (omega arith, rw add-zero)
-
-pub overflow_add-a : goal.overflow_add-a
-overflow_add-a c = omega arith
+loop-i-init c = rw add-zero
 
 pub image_byte-byte-requires : goal.image_byte-byte-requires
 image_byte-byte-requires c =
@@ -23,22 +20,16 @@ image_byte-byte-requires c =
 pub returns-then-byte : goal.returns-then-byte
 returns-then-byte c =
     let l = c.loop-i in
-    rw (l.invariant.1, blank_turn _ l.i _ (omega arith), ← c.image_byte-byte.ensures, ne_eqb _ 255 c.if-byte.true)
-
-pub overflow_add-i : goal.overflow_add-i
-overflow_add-i c = omega arith
-
-pub loop-i-smaller : goal.loop-i-smaller
-loop-i-smaller c = omega arith
+    rw (l.invariant, blank_turn _ l.i _ (omega arith), ← c.image_byte-byte.ensures, ne_eqb _ 255 c.if-byte.true)
 
 pub loop-i-preserved : goal.loop-i-preserved
 loop-i-preserved c =
     let l = c.loop-i in
-    (omega arith, l.invariant.1 ∙ blank_turn _ l.i _ (omega arith) ∙ rw (← c.image_byte-byte.ensures, eq-eqb _ 255 c.if-byte.false))
+    l.invariant ∙ blank_turn _ l.i _ (omega arith) ∙ rw (← c.image_byte-byte.ensures, eq-eqb _ 255 c.if-byte.false)
 
 pub returns : goal.returns
 unfolding all_blank
 returns c =
     let l = c.loop-i in
     let e : 128 - l.i ≡ 0 = omega arith in
-    sym (l.invariant.1 ∙ rw e)
+    sym (l.invariant ∙ rw e)

@@ -1,15 +1,11 @@
 -- `look::imaging::all_blank` meets its contract. The loop's invariant: the page is blank if the bytes not yet passed are.
 -- Assumes nothing.
 use mathlib.Core.Path.{◌≡◌}
-use Prim.Native.Nat.{◌+◌, ◌-◌, ◌≤◌}
+use Prim.Native.Nat.{◌+◌, ◌-◌}
 use Rattle.flash.specs.Looking.{all_blank}
 use Rattle.flash.proofs.Look.{seen}
 use Rattle.look.proofs.imaging.all_blank.Given as goal
 
 abbrev pub invariant-loop-i : goal.invariant-loop-i
 invariant-loop-i l =
-    (l.i ≤ 128)
-    × (all_blank 128 l.start (seen l.indices l.array l.charges l.pulse l.latch l.exposure) ≡ all_blank (128 - l.i) (l.start + l.i) (seen l.indices l.array l.charges l.pulse l.latch l.exposure))
-
-abbrev pub decreases-loop-i : goal.decreases-loop-i
-decreases-loop-i l = 128 - l.i
+    all_blank 128 l.start (seen l.indices l.array l.charges l.pulse l.latch l.exposure) ≡ all_blank (128 - l.i) (l.start + l.i) (seen l.indices l.array l.charges l.pulse l.latch l.exposure)

@@ -1,7 +1,7 @@
 -- `look::imaging::exposed_cells` meets its contract. The loop's invariant: each cell passed has moved.
 -- Assumes nothing.
 use mathlib.Core.Path.{◌≡◌}
-use Prim.Native.Nat.{ℕ, ◌+◌, ◌-◌, ◌*◌, ◌≤◌}
+use Prim.Native.Nat.{ℕ, ◌+◌, ◌*◌}
 use mathlib.Core.List.{List}
 use Rattle.time.specs.declared.Duration.{Duration}
 use Rattle.registers.specs.declared.Pulse.{Pulse}
@@ -15,7 +15,4 @@ abbrev pub moved-there : Pulse → List ℕ → Duration → ℕ → ℕ → ℕ
 moved-there pulse latch exposure address k q = exposed_by pulse latch (span exposure) (8 * address + k) q
 
 abbrev pub invariant-loop-k : goal.invariant-loop-k
-invariant-loop-k l = (l.k ≤ 8) × (l.all ≡ partly (moved-there l.pulse l.latch l.exposure l.address) l.k l.initial.all)
-
-abbrev pub decreases-loop-k : goal.decreases-loop-k
-decreases-loop-k l = 8 - l.k
+invariant-loop-k l = l.all ≡ partly (moved-there l.pulse l.latch l.exposure l.address) l.k l.initial.all

@@ -1,40 +1,20 @@
 -- `look::imaging::write_exposed` meets its contract. The loop's invariant: the first bytes of the image's page are stored, as many as were
 -- passed. Assumes nothing.
-use mathlib.Core.Path.{◌≡◌, refl, ap, ◌∙◌}
+use mathlib.Core.Path.{◌≡◌}
 use native.Mathlib.Omega.{arith}
-use lib.ListN.{length}
-use lib.Seq.{length-sets}
 use Rattle.settle.proofs.Expose.{expose-array-length}
 use Rattle.flash.proofs.Look.{sets-turn}
 use Rattle.look.proofs.imaging.write_exposed.Goals as goal
-
-pub loop-i-init : goal.loop-i-init
-loop-i-init c = (omega arith, refl)
-
-pub overflow_add-a : goal.overflow_add-a
-overflow_add-a c = omega arith
 
 pub image_byte-requires : goal.image_byte-requires
 image_byte-requires c =
     let p = c.requires in
     (p.0, p.1, p.2, p.3, p.4, omega arith)
 
-pub bounds-out-a : goal.bounds-out-a
-bounds-out-a c = rw (c.loop-i.invariant.1, length-sets) (omega arith)
-
-pub overflow_add-i : goal.overflow_add-i
-overflow_add-i c = omega arith
-
-pub loop-i-smaller : goal.loop-i-smaller
-loop-i-smaller c = omega arith
-
 pub loop-i-preserved : goal.loop-i-preserved
 loop-i-preserved c =
     let l = c.loop-i in
-    (omega arith, sets-turn _ _ _ _ l.i _ l.invariant.1 c.image_byte.ensures (rw expose-array-length (omega arith)))
-
-pub shape_of-out : goal.shape_of-out
-shape_of-out c = ap length c.loop-i.invariant.1 ∙ simp length-sets
+    sets-turn _ _ _ _ l.i _ l.invariant c.image_byte.ensures (rw expose-array-length (omega arith))
 
 pub returns : goal.returns
-returns c = let e : c.loop-i.i ≡ 128 = omega arith in rw e at c.loop-i.invariant.1
+returns c = let e : c.loop-i.i ≡ 128 = omega arith in rw e at c.loop-i.invariant

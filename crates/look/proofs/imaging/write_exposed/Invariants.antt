@@ -1,7 +1,6 @@
 -- `look::imaging::write_exposed` meets its contract. The loop's invariant: the first bytes of the image's page are stored, as many as were
 -- passed. Assumes nothing.
 use mathlib.Core.Path.{◌≡◌}
-use Prim.Native.Nat.{◌-◌, ◌≤◌}
 use lib.ListN.{take, drop}
 use lib.Seq.{sets}
 use Rattle.flash.proofs.Look.{seen}
@@ -9,7 +8,4 @@ use Rattle.look.proofs.imaging.write_exposed.Given as goal
 
 abbrev pub invariant-loop-i : goal.invariant-loop-i
 invariant-loop-i l =
-    (l.i ≤ 128) × (l.out ≡ sets l.initial.out l.start (take l.i (drop l.start (seen l.indices l.array l.charges l.pulse l.latch l.exposure))))
-
-abbrev pub decreases-loop-i : goal.decreases-loop-i
-decreases-loop-i l = 128 - l.i
+    l.out ≡ sets l.initial.out l.start (take l.i (drop l.start (seen l.indices l.array l.charges l.pulse l.latch l.exposure)))

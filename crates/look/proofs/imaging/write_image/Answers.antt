@@ -1,9 +1,9 @@
 -- `look::imaging::write_image` meets its contract. The loop's invariant: the image's first pages are stored, as many as were passed. A page
 -- that the exposure does not reach is the stored one. Assumes nothing.
-use mathlib.Core.Path.{◌≡◌, refl, ap, sym, ◌∙◌}
+use mathlib.Core.Path.{◌≡◌, ap, sym, ◌∙◌}
 use Prim.Native.Nat.{◌+◌, ◌*◌}
 use native.Mathlib.Omega.{arith}
-use lib.ListN.{length, take, drop}
+use lib.ListN.{take, drop}
 use lib.Seq.{sets, length-sets}
 use Rattle.time.specs.Raw.{span}
 use Rattle.settle.specs.Pages.{Cells}
@@ -13,26 +13,14 @@ use Rattle.flash.proofs.Look.{look-kept-page, sets_more, sets-all}
 use Rattle.look.proofs.imaging.write_image.Goals as goal
 use Rattle.look.proofs.imaging.write_image.Goals.{then-reaches, else-reaches}
 
-pub loop-page-init : goal.loop-page-init
-loop-page-init c = (omega arith, refl)
-
-pub overflow_mul-start : goal.overflow_mul-start
-overflow_mul-start c = omega arith
-
 pub write_exposed-requires : goal.write_exposed-requires
 write_exposed-requires c =
     let p = c.requires in
-    (p.0, p.1, p.2, p.3, c.ceilings-limits.ensures, omega arith, rw (c.loop-page.invariant.1, length-sets) p.4)
+    (p.0, p.1, p.2, p.3, c.ceilings-limits.ensures, omega arith, rw (c.loop-page.invariant, length-sets) p.4)
 
 pub write_stored-requires : goal.write_stored-requires
 write_stored-requires c =
-    (omega arith, rw (c.loop-page.invariant.1, length-sets) (omega arith))
-
-pub overflow_add-page : goal.overflow_add-page
-overflow_add-page c = omega arith
-
-pub loop-page-smaller : goal.loop-page-smaller
-loop-page-smaller c = omega arith
+    (omega arith, rw (c.loop-page.invariant, length-sets) (omega arith))
 
 pub loop-page-preserved : goal.loop-page-preserved
 loop-page-preserved c =
@@ -48,12 +36,9 @@ loop-page-preserved c =
       | then-reaches w ↦ w.out-is ∙ w.write_exposed.ensures
       | else-reaches w ↦ w.out-is ∙ w.write_stored.ensures ∙ ap (sets l.out n) (kept (sym c.reaches.ensures ∙ w.if-reaches.false))
     ] in
-    (omega arith, rw next (sets_more _ _ _ _ n 128 l.invariant.1 written (rw expose-array-length (omega arith))))
-
-pub shape_of-out : goal.shape_of-out
-shape_of-out c = ap length c.loop-page.invariant.1 ∙ simp length-sets
+    rw next (sets_more _ _ _ _ n 128 l.invariant written (rw expose-array-length (omega arith)))
 
 pub returns : goal.returns
 returns c =
     let l = c.loop-page in
-    sets-all _ _ _ (l.page * 128) l.invariant.1 (rw expose-array-length (omega arith))
+    sets-all _ _ _ (l.page * 128) l.invariant (rw expose-array-length (omega arith))

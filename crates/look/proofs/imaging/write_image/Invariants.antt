@@ -1,7 +1,7 @@
 -- `look::imaging::write_image` meets its contract. The loop's invariant: the image's first pages are stored, as many as were passed. A page
 -- that the exposure does not reach is the stored one. Assumes nothing.
 use mathlib.Core.Path.{◌≡◌}
-use Prim.Native.Nat.{◌-◌, ◌*◌, ◌≤◌}
+use Prim.Native.Nat.{◌*◌}
 use lib.ListN.{take}
 use lib.Seq.{sets}
 use Rattle.flash.proofs.Look.{seen}
@@ -9,7 +9,4 @@ use Rattle.look.proofs.imaging.write_image.Given as goal
 
 abbrev pub invariant-loop-page : goal.invariant-loop-page
 invariant-loop-page l =
-    (l.page ≤ 384) × (l.out ≡ sets l.initial.out 0 (take (l.page * 128) (seen l.indices l.array l.charges l.pulse l.latch l.exposure)))
-
-abbrev pub decreases-loop-page : goal.decreases-loop-page
-decreases-loop-page l = 384 - l.page
+    l.out ≡ sets l.initial.out 0 (take (l.page * 128) (seen l.indices l.array l.charges l.pulse l.latch l.exposure))

@@ -1,41 +1,62 @@
 -- `parts::ending::end_pulse` meets its contract: no word for the same pulse, for none or for an empty range, else one. Assumes nothing.
+use denote.Enum.Bare.{sameb}
+use Rattle.std.specs.Prelude.{Option, Some, None}
+use Rattle.std.specs.Option.{option_eq}
+use Rattle.cell.specs.declared.Direction.{Direction}
+use Rattle.cell.specs.declared.Direction.TheVariants.{Program, Erase}
+use Rattle.registers.specs.declared.Pulse.{Pulse}
+use Rattle.cell.specs.contracts.Direction.{the_type}
+use Rattle.registers.specs.contracts.PulsePartialEq.TheImpl as derived
 use borrow.Author.Tests.{eq-eqb, ne_eqb}
-use mathlib.Core.Path.{refl, sym, ◌∙◌}
-use Rattle.settle.specs.Settling.{ended, end_of}
+use mathlib.Core.Bool.{Bool, true, false, ◌&&◌}
+use lib.Dec.{eqb}
+use mathlib.Core.Path.{◌≡◌, refl, sym, ◌∙◌}
+use Rattle.settle.specs.Settling.{same_direction, same_time, same_pulse, ended, end_of}
 use native.Mathlib.Omega.{arith}
 use Rattle.parts.proofs.ending.end_pulse.Goals as goal
 
-pub returns-then-same_pulse : goal.returns-then-same_pulse
-unfolding ended end_of
-returns-then-same_pulse c = let e = sym c.same_pulse.ensures ∙ c.if-same_pulse.true in rw (e) (refl, omega arith)
+-- the derived equality of two pulses is the definition's
+together : (a b c d : Bool) → (a && (b && (c && d))) ≡ (a && b && c && d)
+together true true true d = refl
+together true true false d = refl
+together true false c d = refl
+together false b c d = refl
+
+same : (a b : Option Pulse) → option_eq derived.eq-value.it a b ≡ same_pulse a b
+unfolding same_pulse
+same None None = refl
+same None (Some q) = refl
+same (Some p) None = refl
+same (Some p) (Some q) =
+    by p.direction q.direction
+    ∙ together (same_direction p.direction q.direction) (eqb p.first q.first) (eqb p.pages q.pages) (same_time p.ready q.ready)
+  where
+    by : (d e : Direction) → (sameb the_type d e && (eqb p.first q.first && (eqb p.pages q.pages && same_time p.ready q.ready)))
+        ≡ (same_direction d e && (eqb p.first q.first && (eqb p.pages q.pages && same_time p.ready q.ready)))
+    by Program Program = refl
+    by Program Erase = refl
+    by Erase Program = refl
+    by Erase Erase = refl
+
+pub returns-then-eq : goal.returns-then-eq
+returns-then-eq c =
+    let x = c.args in
+    rw (sym (c.eq.ensures ∙ same x.old x.new) ∙ c.if-eq.true) (refl, omega arith)
 
 pub returns-then-p-eq0 : goal.returns-then-p-eq0
 unfolding ended end_of
 returns-then-p-eq0 c =
-    let e = sym c.same_pulse.ensures ∙ c.if-same_pulse.false in rw (e, c.in-Some.is, eq-eqb _ 0 c.if-p-eq0.true) (refl, omega arith)
-
-pub end_word-requires : goal.end_word-requires
-end_word-requires c =
-    rw c.in-Some.is at c.requires.0
-
-pub offset_bounds-events-count : goal.offset_bounds-events-count
-offset_bounds-events-count c =
-    let g = rw c.in-Some.is at c.requires.1 in let h = g (omega arith) in omega arith
-
-pub bounds-events-count : goal.bounds-events-count
-bounds-events-count c =
-    let g = rw c.in-Some.is at c.requires.1 in g (omega arith)
-
-pub overflow_add-result : goal.overflow_add-result
-overflow_add-result c =
-    let g = rw c.in-Some.is at c.requires.1 in let h = g (omega arith) in omega arith
+    let x = c.args in
+    rw (sym (c.eq.ensures ∙ same x.old x.new) ∙ c.if-eq.false, c.in-Some.is, eq-eqb _ 0 c.if-p-eq0.true) (refl, omega arith)
 
 pub returns-in-None : goal.returns-in-None
-unfolding ended end_of
+unfolding ended
 returns-in-None c =
-    let e = sym c.same_pulse.ensures ∙ c.if-same_pulse.false in rw (e, c.in-None.is) (refl, omega arith)
+    let x = c.args in
+    rw (sym (c.eq.ensures ∙ same x.old x.new) ∙ c.if-eq.false, c.in-None.is) (refl, omega arith)
 
 pub returns-else-p-eq0 : goal.returns-else-p-eq0
 unfolding ended end_of
 returns-else-p-eq0 c =
-    let e = sym c.same_pulse.ensures ∙ c.if-same_pulse.false in rw (e, c.in-Some.is, ne_eqb _ 0 c.if-p-eq0.false) (rw c.end_word.ensures, omega arith)
+    let x = c.args in
+    rw (sym (c.eq.ensures ∙ same x.old x.new) ∙ c.if-eq.false, c.in-Some.is, ne_eqb _ 0 c.if-p-eq0.false) (rw c.end_word.ensures, omega arith)

@@ -6,7 +6,7 @@ use Rattle.parts.proofs.verifying.sense.Goals as goal
 pub returns-then-sense_due-low : goal.returns-then-sense_due-low
 unfolding sensed_by
 returns-then-sense_due-low c =
-    rw (rw c.sense_due.ensures at c.if-sense_due-low.true) (c.sense_four.ensures ∙ rw (c.verify_sense.ensures, c.sense_address-address.ensures))
+    rw (rw c.sense_due.ensures at c.if-sense_due-low.true) (c.sense_four.ensures ∙ rw (c.verify_sense.ensures, c.from-address.ensures, c.sense_address.ensures))
 
 pub returns : goal.returns
 unfolding sensed_by

@@ -1,6 +1,6 @@
 -- `parts::verifying::sense_four` meets its contract. The loop's invariant: each place passed holds the byte that its cells sense. Assumes
 -- nothing.
-use mathlib.Core.Path.{sym, ◌≡◌, refl, ap, ◌∙◌}
+use mathlib.Core.Path.{◌≡◌, ap, ◌∙◌}
 use lib.ListN.{length, replicate}
 use Prim.Native.Nat.{ℕ, ◌+◌, ◌*◌}
 use mathlib.Core.List.{List}
@@ -20,40 +20,15 @@ tabled : (m : Sense) (a : ℕ) (c : Cells) (cells : List ℕ) → cells ≡ tabu
     → sensed_byte m a (at cells) ≡ sensed_byte m a (λ j. cell_at c (8 * a + j))
 tabled m a c cells e = sensed_byte-same m a _ _ (λ k h. ap (λ xs. at xs k) e ∙ entry (λ j. cell_at c (8 * a + j)) 8 k h)
 
-pub loop-k-init : goal.loop-k-init
-loop-k-init c = (omega arith, refl)
-
-pub overflow_add-address : goal.overflow_add-address
-overflow_add-address c = omega arith
-
-pub byte_cells-cells-requires : goal.byte_cells-cells-requires
-byte_cells-cells-requires c =
-    let p = c.requires in (p.0, p.1, p.2, p.3, omega arith)
-
-pub overflow_add-address-in-loop-k : goal.overflow_add-address-in-loop-k
-overflow_add-address-in-loop-k c = omega arith
-
-pub slice_bounds-sense_byte-end : goal.slice_bounds-sense_byte-end
-slice_bounds-sense_byte-end c = sym (ap length c.byte_cells-cells.ensures)
-
 pub sense_byte-requires : goal.sense_byte-requires
 sense_byte-requires c =
     (c.ceilings-limits.ensures, omega arith, ap length c.byte_cells-cells.ensures)
-
-pub bounds-bytes-k : goal.bounds-bytes-k
-bounds-bytes-k c = omega arith
-
-pub overflow_add-k : goal.overflow_add-k
-overflow_add-k c = omega arith
-
-pub loop-k-smaller : goal.loop-k-smaller
-loop-k-smaller c = omega arith
 
 pub loop-k-preserved : goal.loop-k-preserved
 loop-k-preserved c =
     let x = c.args in
     let l = c.loop-k in
-    (omega arith, partly-turn (four-there x.m x.address x.indices.now x.array.now x.charges.now) l.k (replicate 4 0) l.bytes _ l.invariant.1 (c.sense_byte.ensures ∙ tabled _ _ _ _ c.byte_cells-cells.ensures))
+    partly-turn (four-there x.m x.address x.indices.now x.array.now x.charges.now) l.k (replicate 4 0) l.bytes _ l.invariant (c.sense_byte.ensures ∙ tabled _ _ _ _ c.byte_cells-cells.ensures)
 
 pub returns : goal.returns
 unfolding four_sensed
@@ -61,4 +36,4 @@ returns c =
     let x = c.args in
     let l = c.loop-k in
     let e : l.k ≡ 4 = omega arith in
-    l.invariant.1 ∙ partly-all (four-there x.m x.address x.indices.now x.array.now x.charges.now) (replicate 4 0) _ e
+    l.invariant ∙ partly-all (four-there x.m x.address x.indices.now x.array.now x.charges.now) (replicate 4 0) _ e

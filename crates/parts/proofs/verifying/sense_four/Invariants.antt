@@ -1,7 +1,7 @@
 -- `parts::verifying::sense_four` meets its contract. The loop's invariant: each place passed holds the byte that its cells sense. Assumes
 -- nothing.
 use mathlib.Core.Path.{◌≡◌}
-use Prim.Native.Nat.{ℕ, ◌+◌, ◌-◌, ◌*◌, ◌≤◌}
+use Prim.Native.Nat.{ℕ, ◌+◌, ◌*◌}
 use mathlib.Core.List.{List}
 use Rattle.cell.specs.declared.Sense.{Sense}
 use Rattle.cell.specs.Cell.{sensed_byte}
@@ -16,7 +16,4 @@ abbrev pub four-there : Sense → ℕ → List ℕ → List ℕ → List ℕ →
 four-there m address index array charges k x = sensed_byte m (address + k) (λ j. cell_at (cells_in index array charges) (8 * (address + k) + j))
 
 abbrev pub invariant-loop-k : goal.invariant-loop-k
-invariant-loop-k l = (l.k ≤ 4) × (l.bytes ≡ partly (four-there l.m l.address l.indices l.array l.charges) l.k l.initial.bytes)
-
-abbrev pub decreases-loop-k : goal.decreases-loop-k
-decreases-loop-k l = 4 - l.k
+invariant-loop-k l = l.bytes ≡ partly (four-there l.m l.address l.indices l.array l.charges) l.k l.initial.bytes

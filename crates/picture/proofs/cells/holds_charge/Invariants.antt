@@ -1,7 +1,7 @@
 -- `picture::cells::holds_charge` meets its contract. The loop's invariant: the page holds a charge if a cell not yet passed does.
 -- Assumes nothing.
 use mathlib.Core.Path.{◌≡◌}
-use Prim.Native.Nat.{◌+◌, ◌-◌, ◌*◌, ◌≤◌}
+use Prim.Native.Nat.{◌+◌, ◌-◌, ◌*◌}
 use Rattle.picture.proofs.Held.{after}
 use Rattle.picture.specs.Marks.{holds_charge}
 use Rattle.settle.specs.Pages.{cell_at}
@@ -9,8 +9,4 @@ use Rattle.picture.proofs.cells.holds_charge.Given as goal
 
 abbrev pub invariant-loop-i : goal.invariant-loop-i
 invariant-loop-i l =
-    (l.i ≤ 1024)
-    × (holds_charge (cell_at (after l.indices l.array l.charges l.pulse l.latch l.exposure)) 1024 (l.page * 1024) ≡ holds_charge (cell_at (after l.indices l.array l.charges l.pulse l.latch l.exposure)) (1024 - l.i) (l.page * 1024 + l.i))
-
-abbrev pub decreases-loop-i : goal.decreases-loop-i
-decreases-loop-i l = 1024 - l.i
+    holds_charge (cell_at (after l.indices l.array l.charges l.pulse l.latch l.exposure)) 1024 (l.page * 1024) ≡ holds_charge (cell_at (after l.indices l.array l.charges l.pulse l.latch l.exposure)) (1024 - l.i) (l.page * 1024 + l.i)

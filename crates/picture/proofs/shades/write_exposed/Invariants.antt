@@ -1,7 +1,6 @@
 -- `picture::shades::write_exposed` meets its contract. The loop's invariant: as many shades are written as cells were passed.
 -- Assumes nothing.
 use mathlib.Core.Path.{◌≡◌}
-use Prim.Native.Nat.{◌-◌, ◌≤◌}
 use Rattle.picture.proofs.Held.{after}
 use Rattle.picture.specs.Shades.{shade_of}
 use Rattle.picture.specs.Outputs.{written}
@@ -9,7 +8,4 @@ use Rattle.settle.specs.Pages.{cell_at}
 use Rattle.picture.proofs.shades.write_exposed.Given as goal
 
 abbrev pub invariant-loop-i : goal.invariant-loop-i
-invariant-loop-i l = (l.i ≤ 393216) × (l.out ≡ written (λ k. shade_of (cell_at (after l.indices l.array l.charges l.pulse l.latch l.exposure) k)) l.i l.initial.out)
-
-abbrev pub decreases-loop-i : goal.decreases-loop-i
-decreases-loop-i l = 393216 - l.i
+invariant-loop-i l = l.out ≡ written (λ k. shade_of (cell_at (after l.indices l.array l.charges l.pulse l.latch l.exposure) k)) l.i l.initial.out

@@ -1,6 +1,6 @@
 -- `settle::pages::byte_cells` meets its contract. The loop's invariant: each place passed holds the charge of its cell.
 -- Assumes nothing.
-use Prim.Native.Nat.{ℕ, ◌+◌, ◌-◌, ◌*◌, ◌≤◌}
+use Prim.Native.Nat.{ℕ, ◌+◌, ◌*◌}
 use mathlib.Core.Path.{◌≡◌}
 use mathlib.Core.List.{List}
 use Rattle.cell.proofs.Partly.{partly}
@@ -11,7 +11,4 @@ abbrev pub cell-there : List ℕ → List ℕ → List ℕ → ℕ → ℕ → �
 cell-there index array charges address k x = cell_at (record { index = index; array = array; charges = charges }) (8 * address + k)
 
 abbrev pub invariant-loop-k : goal.invariant-loop-k
-invariant-loop-k l = (l.k ≤ 8) × (l.cells ≡ partly (cell-there l.indices l.array l.charges l.address) l.k l.initial.cells)
-
-abbrev pub decreases-loop-k : goal.decreases-loop-k
-decreases-loop-k l = 8 - l.k
+invariant-loop-k l = l.cells ≡ partly (cell-there l.indices l.array l.charges l.address) l.k l.initial.cells

@@ -18,8 +18,8 @@ in-slot (suc s) array charges i n = let e : suc s - 1 ≡ s = omega arith in rw 
 pub returns-then-entry-eq0 : goal.returns-then-entry-eq0
 unfolding cell_at held
 returns-then-entry-eq0 c =
-    let e : c.wide-entry.result ≡ 0 = omega arith in
-    c.first_charge.ensures ∙ rw (c.bit.ensures, ← c.wide-entry.ensures, e)
+    let e : c.from-entry.result ≡ 0 = omega arith in
+    c.first_charge.ensures ∙ rw (c.bit.ensures, ← c.from-entry.ensures, e)
 
 pub overflow_mul-result : goal.overflow_mul-result
 overflow_mul-result c =
@@ -41,4 +41,4 @@ pub returns : goal.returns
 unfolding cell_at
 returns c =
     let x = c.args in
-    rw (← c.wide-entry.ensures) (sym (in-slot c.wide-entry.result x.array.now x.charges.now x.i (omega arith)))
+    rw (← c.from-entry.ensures) (sym (in-slot c.from-entry.result x.array.now x.charges.now x.i (omega arith)))

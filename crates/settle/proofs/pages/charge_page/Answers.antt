@@ -53,9 +53,9 @@ pub returns : goal.returns
 returns c =
     let x = c.args in
     let k : Cells = record { index = x.indices.now; array = x.array.now; charges = x.charges.now } in
-    let old : at x.indices.now x.page ≡ suc (c.wide-entry.result - 1) = omega arith in
-    let charges = page-charged x.pulse x.latch.now (span x.exposure) k x.page (c.wide-entry.result - 1) old in (
-      sym (page-kept (charged x.pulse x.latch.now (span x.exposure)) k x.page (c.wide-entry.result - 1) old),
+    let old : at x.indices.now x.page ≡ suc (c.from-entry.result - 1) = omega arith in
+    let charges = page-charged x.pulse x.latch.now (span x.exposure) k x.page (c.from-entry.result - 1) old in (
+      sym (page-kept (charged x.pulse x.latch.now (span x.exposure)) k x.page (c.from-entry.result - 1) old),
       rw c.charge_slot-2.ensures (sym charges),
-      sym (slot-own x.indices.now x.page (c.wide-entry.result - 1) old),
+      sym (slot-own x.indices.now x.page (c.from-entry.result - 1) old),
     )

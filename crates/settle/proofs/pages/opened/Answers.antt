@@ -12,6 +12,7 @@ use lib.Seq.{drop-cons, drop-length}
 use Rattle.cell.specs.Cell.{at}
 use Rattle.settle.specs.Pages.{opened}
 use Rattle.settle.proofs.pages.opened.Goals as goal
+use Rattle.settle.proofs.pages.opened.Goals.{then-entry-ne0, else-entry-ne0}
 
 opened-zero : (x : ℕ) (xs : List ℕ) → x ≡ 0 → opened (x ∷ xs) ≡ opened xs
 unfolding opened
@@ -30,41 +31,18 @@ none_left : (l : List ℕ) (i : ℕ) → i ≡ length l → opened (drop i l) �
 unfolding opened
 none_left l i e = rw (e, drop-length)
 
-pub loop-i-init : goal.loop-i-init
-loop-i-init c = (omega arith, omega arith, omega arith)
-
-pub offset_bounds-indices-i : goal.offset_bounds-indices-i
-offset_bounds-indices-i c = omega arith
-
-pub bounds-indices-i : goal.bounds-indices-i
-bounds-indices-i c = omega arith
-
-pub overflow_add-i : goal.overflow_add-i
-overflow_add-i c = omega arith
-
-pub overflow_add-n : goal.overflow_add-n
-overflow_add-n c = omega arith
-
-pub loop-i-smaller-then-entry-ne0 : goal.loop-i-smaller-then-entry-ne0
-loop-i-smaller-then-entry-ne0 c = omega arith
-
-pub loop-i-preserved-then-entry-ne0 : goal.loop-i-preserved-then-entry-ne0
-loop-i-preserved-then-entry-ne0 c =
+pub loop-entry-preserved : goal.loop-entry-preserved
+loop-entry-preserved c =
     let l = c.args.indices.now in
-    let i = c.loop-i.i in
-    (omega arith, omega arith, omega (arith, ap opened (from l i (omega arith)), opened-suc (at l i) (drop (i + 1) l) (omega arith)))
-
-pub loop-i-smaller : goal.loop-i-smaller
-loop-i-smaller c = omega arith
-
-pub loop-i-preserved : goal.loop-i-preserved
-loop-i-preserved c =
-    let l = c.args.indices.now in
-    let i = c.loop-i.i in
-    (omega arith, omega arith, omega (arith, ap opened (from l i (omega arith)), opened-zero (at l i) (drop (i + 1) l) (omega arith)))
+    let i = c.loop-entry.entry-index in
+    let e = ap opened (from l i (omega arith)) in
+    elim c.if-entry-ne0.branch [
+      | then-entry-ne0 w ↦ (omega arith, omega (arith, e, opened-suc (at l i) (drop (i + 1) l) (omega arith)))
+      | else-entry-ne0 w ↦ (omega arith, omega (arith, e, opened-zero (at l i) (drop (i + 1) l) (omega arith)))
+    ]
 
 pub returns : goal.returns
 returns c =
     let l = c.args.indices.now in
-    let e = none_left l c.loop-i.i (omega arith) in
+    let e = none_left l c.loop-entry.entry-index (omega arith) in
     (omega arith, omega arith)
