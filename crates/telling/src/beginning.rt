@@ -14,7 +14,7 @@ use time::Time;
 // Every byte FF.
 fn begin_empty(record: &mut [u8], array: &mut [u8], charges: &[u64]) -> bool {
     let image = [0xFFu8; FLASH_SIZE];
-    make(&image, record, array, charges.len()) == 0
+    make(&image, record, array, charges.len()).is_ok()
 }
 
 // A file in the buffer: how many bytes, or why not.
@@ -51,7 +51,7 @@ fn begin_from_image<R: Files, S: Print>(
                 say_image_length(says, path, n as u64);
                 return false;
             }
-            make(first(buffer, n), record, array, charges.len()) == 0
+            make(first(buffer, n), record, array, charges.len()).is_ok()
         }
     }
 }
@@ -74,7 +74,7 @@ fn begin_from_snapshot<R: Files, S: Print>(
             match read_snapshot(first(buffer, n), record, array, charges, last) {
                 Ok(()) => true,
                 Err(refusal) => {
-                    say_no_snapshot(says, path, u32::from(refusal));
+                    say_no_snapshot(says, path, refusal);
                     false
                 }
             }
