@@ -5,6 +5,7 @@ use mathlib.Core.Bool.{Bool, true, false, cond}
 use mathlib.Core.List.{List, [], ◌∷◌, ◌++◌, append_assoc}
 use mathlib.Core.Path.{◌≡◌, refl, ap, ◌∙◌}
 use lib.Dec.{eqb}
+use Rattle.refusal.specs.Refusal.{numbered}
 use Rattle.lent.specs.Asked.{Outcome, outcome}
 use Rattle.grammar.specs.declared.Line.{Line}
 use Rattle.grammar.specs.declared.Line.TheVariants as line
@@ -46,7 +47,7 @@ module _ (w : Manner) (text : List ℕ) (cs : List Complaint) where
       let refusal = looked_refusal l t d.memory in
       let saw = looked_said n l t d.memory in
       either d.course.stopped text cs d (looked w n l t refusal d) _ _ refl
-      (either (eqb refusal 0) text cs (seen saw d) (left_out w (complaint.Unseen n refusal) d) _ _ (rw (append_assoc text d.said)) (left-out-after (complaint.Unseen n refusal) d))
+      (either (eqb refusal 0) text cs (seen saw d) (left_out w (complaint.Unseen n (numbered refusal)) d) _ _ (rw (append_assoc text d.said)) (left-out-after (complaint.Unseen n (numbered refusal)) d))
   line_after n (line.Wrong f) d =
       either d.course.stopped text cs d (left_out w (complaint.Wrong n f) d) _ _ refl (left-out-after (complaint.Wrong n f) d)
 

@@ -6,6 +6,7 @@ use mathlib.Core.List.{List, [], ◌∷◌, ◌++◌, map, append_assoc, append-
 use mathlib.Core.Path.{◌≡◌, refl, sym, ap, ◌∙◌}
 use lib.Dec.{eqb}
 use lib.ListN.{length}
+use Rattle.refusal.specs.Refusal.{numbered}
 use Rattle.lent.specs.Memory.{Memory}
 use Rattle.lent.specs.Asked.{outcome}
 use Rattle.ledger.specs.Lists.{Asked, Typed, new_memory, memory_after}
@@ -87,7 +88,7 @@ module _ (m : Memory) (w : Manner) where
   line-done n (line.Look t l) asks d k =
       let r = looked_refusal l t d.memory in
       let sees = seen (looked_said n l t d.memory) d in
-      let out = left_out w (complaint.Unseen n r) d in
+      let out = left_out w (complaint.Unseen n (numbered r)) d in
       on asks [] d (looked w n l t r d) (λ h. rw append-nil (either asks (eqb r 0) sees out (kept asks d sees h refl k) (kept asks d out h refl k))) k
   line-done n (line.Wrong f) asks d k =
       let out = left_out w (complaint.Wrong n f) d in

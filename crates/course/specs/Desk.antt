@@ -1,6 +1,7 @@
 -- What a line of a history does: a call is made, a look is taken, or the line is complained of. The bytes said are those of standard
 -- output; complaints are told by what they are about. Assumes nothing.
 use Rattle.std.specs.Prelude.{ℕ, zero, suc, ◌+◌, ◌*◌, ◌≡◌, Bool, true, false, cond, List, [], ◌∷◌, ◌++◌, eqb, Option, option_to_list}
+use Rattle.refusal.specs.Refusal.{numbered}
 use Rattle.time.specs.declared.Time.{Time}
 use Rattle.cell.specs.Cell.{pages, at}
 use Rattle.flash.specs.Looking.{charge_at, peek_at, blank_at, image_at}
@@ -88,7 +89,7 @@ refused w n o d = record {
   memory = o.memory;
   events = o.events;
   said = d.said;
-  complaints = d.complaints ++ Refused n o.number ∷ [];
+  complaints = d.complaints ++ Refused n (numbered o.number) ∷ [];
 }
 
 abbrev pub noted : Manner → ℕ → Asking → Outcome → Desk → Desk
@@ -125,7 +126,7 @@ left_out w c d = record {
 }
 
 abbrev pub looked : Manner → ℕ → Looking → Time → ℕ → Desk → Desk
-looked w n l t refusal d = cond (eqb refusal 0) (seen (looked_said n l t d.memory) d) (left_out w (Unseen n refusal) d)
+looked w n l t refusal d = cond (eqb refusal 0) (seen (looked_said n l t d.memory) d) (left_out w (Unseen n (numbered refusal)) d)
 
 -- ---- lines
 

@@ -7,6 +7,7 @@ ghost use Rattle.course.specs.Course.{with_calls, after_refusal, after_left_out,
 
 use fields::Fault;
 use grammar::Line;
+use refusal::Refusal;
 use time::Time;
 use verdict::Tally;
 use verdict::blocks::BLOCKS;
@@ -34,8 +35,8 @@ pub struct Course {
 // What a run complains of, with the number of its line: a refused call, a refused look, a line that can't be taken.
 #[derive(Clone, Copy)]
 pub enum Complaint {
-    Refused(u64, u32),
-    Unseen(u64, u32),
+    Refused(u64, Refusal),
+    Unseen(u64, Refusal),
     Wrong(u64, Fault),
 }
 

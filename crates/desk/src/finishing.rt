@@ -96,7 +96,7 @@ pub fn finish<R: Files + Print, S: Print>(
     };
     let counts = counts_of(course);
     let mut text = [0u8; REPORT];
-    let reported = report(
+    match report(
         &mut text,
         counts,
         judged,
@@ -105,14 +105,14 @@ pub fn finish<R: Files + Print, S: Print>(
         array,
         charges,
         time,
-    );
-    if reported.number != 0 {
-        say_unseen(says, reported.number);
-        return;
-    }
-    if files_written(
-        rt, args, options, says, record, array, charges, buffer, time,
     ) {
-        say_report(rt, &text, reported.end);
+        Ok(end) => {
+            if files_written(
+                rt, args, options, says, record, array, charges, buffer, time,
+            ) {
+                say_report(rt, &text, end);
+            }
+        }
+        Err(why) => say_unseen(says, why),
     }
 }

@@ -62,7 +62,10 @@ pub extern "C" fn flash_peek(
 ) -> u32
     ensures { (result ≡ peek_refusal address (record { 0 = seconds; 1 = fraction }) (record { bytes = «record».now; array = array.now; charges = charges.now })) × (value.new ≡ answered result (peek_answer address (record { 0 = seconds; 1 = fraction }) (record { bytes = «record».now; array = array.now; charges = charges.now })) value.old) }
 {
-    told_into(see_byte(record, array, charges, address, Time(seconds, fraction)), value)
+    told_into(
+        see_byte(record, array, charges, address, Time(seconds, fraction)),
+        value,
+    )
 }
 
 // The charge of a cell at a time.
@@ -79,7 +82,17 @@ pub extern "C" fn flash_cell_charge(
 ) -> u32
     ensures { (result ≡ charge_refusal address bit (record { 0 = seconds; 1 = fraction }) (record { bytes = «record».now; array = array.now; charges = charges.now })) × (charge.new ≡ answered result (charge_answer address bit (record { 0 = seconds; 1 = fraction }) (record { bytes = «record».now; array = array.now; charges = charges.now })) charge.old) }
 {
-    told_into(see_charge(record, array, charges, address, bit, Time(seconds, fraction)), charge)
+    told_into(
+        see_charge(
+            record,
+            array,
+            charges,
+            address,
+            bit,
+            Time(seconds, fraction),
+        ),
+        charge,
+    )
 }
 
 // Whether the page of an address is blank at a time.
@@ -96,7 +109,10 @@ pub extern "C" fn flash_blank_page(
 ) -> u32
     ensures { (result ≡ blank_refusal address (record { 0 = seconds; 1 = fraction }) (record { bytes = «record».now; array = array.now; charges = charges.now })) × (blank.new ≡ answered result (blank_answer address (record { 0 = seconds; 1 = fraction }) (record { bytes = «record».now; array = array.now; charges = charges.now })) blank.old) }
 {
-    told_into(see_blank(record, array, charges, address, Time(seconds, fraction)), blank)
+    told_into(
+        see_blank(record, array, charges, address, Time(seconds, fraction)),
+        blank,
+    )
 }
 
 // The image at a time, at the beginning of the output.

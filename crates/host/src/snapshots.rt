@@ -52,11 +52,5 @@ pub extern "C" fn flash_read_snapshot(
 ) -> u32
     ensures { (result ≡ read_refusal (record { 0 = seconds; 1 = fraction }) bytes.entry.now (record { bytes = «record».old; array = array.old; charges = charges.old })) × Left (memory_read result bytes.entry.now (record { bytes = «record».old; array = array.old; charges = charges.old })) «record».new array.new charges.new }
 {
-    told(read_snapshot(
-        bytes,
-        record,
-        array,
-        charges,
-        Time(seconds, fraction),
-    ))
+    told(read_snapshot(bytes, record, array, charges, Time(seconds, fraction)))
 }

@@ -1,6 +1,6 @@
 -- The table of refusals: the number of each, and what an outcome tells. Document 01, "Order of checking".
 -- Assumes nothing.
-use Rattle.std.specs.Prelude.{ℕ, ◌≡◌, Result, Ok, Err}
+use Rattle.std.specs.Prelude.{ℕ, ◌≡◌, cond, eqb, Result, Ok, Err}
 use Rattle.refusal.specs.declared.Refusal.{Refusal}
 use Rattle.refusal.specs.declared.Refusal.TheVariants.{Firmware, Memory, Record, Place, LastSecond, TooEarly, Events, Output, EndsEarly, Field, LeftOver, Invalid}
 
@@ -17,6 +17,22 @@ number EndsEarly = 9
 number Field = 10
 number LeftOver = 11
 number Invalid = 12
+
+-- the refusal with a number, which is one of the table's
+unfoldable pub numbered : ℕ → Refusal
+numbered n =
+    cond (eqb n 1) Firmware
+    (cond (eqb n 2) Memory
+    (cond (eqb n 3) Record
+    (cond (eqb n 4) Place
+    (cond (eqb n 5) LastSecond
+    (cond (eqb n 6) TooEarly
+    (cond (eqb n 7) Events
+    (cond (eqb n 8) Output
+    (cond (eqb n 9) EndsEarly
+    (cond (eqb n 10) Field
+    (cond (eqb n 11) LeftOver
+    Invalid))))))))))
 
 -- the number of an outcome: 0 where there is an answer
 abbrev pub told : {A : Type 0} → Result A Refusal → ℕ

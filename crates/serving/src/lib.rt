@@ -111,7 +111,7 @@ fn noted(
         Err(refusal) => Served {
             course: after_refusal(course, manner.go_on),
             next,
-            complaint: Some(Complaint::Refused(line, u32::from(refusal))),
+            complaint: Some(Complaint::Refused(line, refusal)),
             end: 0,
         },
     }

@@ -72,7 +72,7 @@ fn begin_from_snapshot<R: Files, S: Print>(
             match read_snapshot(first(buffer, n), record, array, charges, last) {
                 Ok(()) => true,
                 Err(refusal) => {
-                    say_no_snapshot(says, path, u32::from(refusal));
+                    say_no_snapshot(says, path, refusal);
                     false
                 }
             }

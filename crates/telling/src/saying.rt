@@ -3,6 +3,7 @@ use faults::fault;
 use notices::help::help;
 use notices::{image_length, not_opened, not_written};
 use reason::Reason;
+use refusal::Refusal;
 use refusals::{look_refusal, no_snapshot, refusal, unseen};
 use slices::first;
 use text::fill;
@@ -34,22 +35,22 @@ pub fn say_fault<S: Print>(
     }
 }
 
-pub fn say_refusal<S: Print>(to: &S, line: u64, number: u32) {
+pub fn say_refusal<S: Print>(to: &S, line: u64, why: Refusal) {
     let mut text = [0u8; ROOM];
-    let n = refusal(&mut text, 0, line, number);
+    let n = refusal(&mut text, 0, line, why);
     let _ = to.write_all(first(&text, n));
 }
 
-pub fn say_look_refused<S: Print>(to: &S, line: u64, number: u32) {
+pub fn say_look_refused<S: Print>(to: &S, line: u64, why: Refusal) {
     let mut text = [0u8; ROOM];
-    let n = look_refusal(&mut text, 0, line, number);
+    let n = look_refusal(&mut text, 0, line, why);
     let _ = to.write_all(first(&text, n));
 }
 
 // No look is possible at the verdict's time.
-pub fn say_unseen<S: Print>(to: &S, number: u32) {
+pub fn say_unseen<S: Print>(to: &S, why: Refusal) {
     let mut text = [0u8; ROOM];
-    let n = unseen(&mut text, 0, number);
+    let n = unseen(&mut text, 0, why);
     let _ = to.write_all(first(&text, n));
 }
 
@@ -92,8 +93,8 @@ pub fn say_not_read<S: Print>(to: &S, path: &[u8]) {
     let _ = to.write_all(first(&text, n));
 }
 
-pub fn say_no_snapshot<S: Print>(to: &S, path: &[u8], number: u32) {
+pub fn say_no_snapshot<S: Print>(to: &S, path: &[u8], why: Refusal) {
     let mut text = [0u8; ROOM];
-    let n = no_snapshot(&mut text, 0, path, number);
+    let n = no_snapshot(&mut text, 0, path, why);
     let _ = to.write_all(first(&text, n));
 }

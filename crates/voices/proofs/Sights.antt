@@ -7,7 +7,7 @@ use borrow.Author.Tests.{ne_eqb}
 use Rattle.std.specs.Prelude.{Ok, Err, Option, None, Some}
 use Rattle.refusal.specs.declared.Refusal.{Refusal}
 use Rattle.refusal.specs.Refusal.{number}
-use Rattle.refusal.proofs.Outcomes.{number-some}
+use Rattle.refusal.proofs.Outcomes.{number-some, numbered_number}
 use Rattle.time.specs.declared.Time.{Time}
 use Rattle.lent.specs.Memory.{Memory}
 use Rattle.grammar.specs.declared.Looking.{Looking}
@@ -28,7 +28,7 @@ module _ (w : Manner) (line : ℕ) (l : Looking) (t : Time) (m : Memory) (before
   left-seen s same events =
       rw s.0 (record { course_is = same; memory_is = refl; events_are = refl; said_is = s.1; complaints_are = refl })
 
-  pub left-refused : (r : Refusal) → Looks line l t m (Err r) out left → after ≡ after_left_out w.go_on before → Left (Some (Unseen line (number r))) 0
+  pub left-refused : (r : Refusal) → Looks line l t m (Err r) out left → after ≡ after_left_out w.go_on before → Left (Some (Unseen line r)) 0
   left-refused r s more events =
       let some = ne_eqb (number r) 0 (λ z. omega (arith, number-some r)) in
-      rw (← s.0, some, s.1) (record { course_is = more; memory_is = refl; events_are = refl; said_is = puts_none 0 out; complaints_are = refl })
+      rw (← s.0, some, s.1, numbered_number r) (record { course_is = more; memory_is = refl; events_are = refl; said_is = puts_none 0 out; complaints_are = refl })

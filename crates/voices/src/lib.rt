@@ -100,7 +100,7 @@ pub fn look(
         },
         Err(refusal) => Seeing {
             course: after_left_out(course, manner.go_on),
-            complaint: Some(Complaint::Unseen(line, u32::from(refusal))),
+            complaint: Some(Complaint::Unseen(line, refusal)),
             end: 0,
         },
     }
