@@ -31,7 +31,7 @@ pub fn snapshot_drafted<R: Files, S: Print>(
     charges: &[u64],
     buffer: &mut [u8],
 ) -> bool {
-    if path.len() == 0 {
+    if path.is_empty() {
         return true;
     }
     let written = write_snapshot(record, array, charges, buffer);
@@ -53,7 +53,7 @@ pub fn picture_drafted<R: Files, S: Print>(
     buffer: &mut [u8],
     time: Time,
 ) -> bool {
-    if path.len() == 0 {
+    if path.is_empty() {
         return true;
     }
     if see_shades(record, array, charges, time, buffer) != 0 {
@@ -67,7 +67,7 @@ pub fn picture_drafted<R: Files, S: Print>(
 
 // A file that was asked for takes its name.
 pub fn kept<R: Files, S: Print>(rt: &R, path: &[u8], says: &S) -> bool {
-    if path.len() == 0 {
+    if path.is_empty() {
         return true;
     }
     if keep(rt, path) {
@@ -80,7 +80,7 @@ pub fn kept<R: Files, S: Print>(rt: &R, path: &[u8], says: &S) -> bool {
 
 // A draft of a file that was asked for is removed.
 pub fn discarded<R: Files>(rt: &R, path: &[u8]) {
-    if 0 < path.len() {
+    if !path.is_empty() {
         discard(rt, path);
     }
 }
