@@ -66,12 +66,11 @@ fn files_written<R: Files, S: Print>(
 
 // What is reported of a history that was read.
 fn counts_of(course: Course) -> Counts {
-    let tally = course.tally;
     Counts {
         made: course.made,
         refused: course.refused,
         left_out: course.left_out,
-        tally: tally,
+        tally: course.tally,
     }
 }
 

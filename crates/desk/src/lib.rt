@@ -48,8 +48,7 @@ fn serve<R: Files + Print + Eprint, S: Print>(
     let read = read_history(
         rt, path, says, manner, course, record, array, charges, events, buffer,
     );
-    if read.whole {
-        let after = read.course;
+    if let Some(after) = read {
         finish(
             rt, args, options, says, after, record, array, charges, buffer,
         );

@@ -3,11 +3,11 @@
 #![tactic(auto)]
 
 use slices::first;
-use std::fs;
 use std::fs::{OpenFile, OpenOptions};
 use std::io::{ErrorKind, Seek, SeekFrom, Write};
 use std::rt::Files;
 use std::str::from_utf8;
+use std::{fs, io};
 use text::putting::put_text;
 
 // Room for a draft's name. A path has at most 4,095 bytes.
@@ -19,28 +19,25 @@ fn name_beside(path: &[u8], name: &mut [u8]) -> usize {
     put_text(name, end, b".part")
 }
 
-// Whether an open file is a plain one, no device or pipe, whose name must stay: only a plain file can be given a length, here its own.
-fn is_plain<F: Seek + OpenFile>(file: &mut F) -> bool {
-    match file.seek(SeekFrom::End(0)) {
-        Ok(length) => file.set_len(length).is_ok(),
-        Err(_) => false,
-    }
+// Gives a file its own length, which only a plain one can be given, and no device or pipe, whose name must stay.
+fn keep_length<F: Seek + OpenFile>(file: &mut F) -> io::Result<()> {
+    let length = file.seek(SeekFrom::End(0))?;
+    file.set_len(length)
 }
 
 // Whether a name is free, or that of a plain file that may be written.
 fn may_take<R: Files>(rt: &R, path: &str) -> bool {
     match OpenOptions::new().read(true).write(true).open(rt, path) {
-        Ok(mut file) => is_plain(&mut file),
+        Ok(mut file) => keep_length(&mut file).is_ok(),
         Err(e) => e.kind() == ErrorKind::NotFound,
     }
 }
 
-// Whether both parts are in a file, also on its disk, since nothing is told of a failure to close it.
-fn written<F: Write + OpenFile>(file: &mut F, head: &[u8], rest: &[u8]) -> bool {
-    let began = file.write_all(head).is_ok();
-    let went_on = file.write_all(rest).is_ok();
-    let kept = file.sync_all().is_ok();
-    began & went_on & kept
+// Writes both parts to a file, also on its disk, since nothing is told of a failure to close it.
+fn write<F: Write + OpenFile>(file: &mut F, head: &[u8], rest: &[u8]) -> io::Result<()> {
+    file.write_all(head)?;
+    file.write_all(rest)?;
+    file.sync_all()
 }
 
 // Makes a file of two parts, where there is none of that name. On false there is none of this.
@@ -51,7 +48,7 @@ fn made<R: Files>(rt: &R, name: &str, head: &[u8], rest: &[u8]) -> bool {
         .create_new(true)
         .open(rt, name)
     {
-        Ok(mut file) => whole = written(&mut file, head, rest),
+        Ok(mut file) => whole = write(&mut file, head, rest).is_ok(),
         Err(_) => return false,
     }
     if !whole {

@@ -30,10 +30,8 @@ fn with_pixel(pixels: Pixels, shade: u8) -> Pixels {
 
 fn counted(bytes: &[u8]) -> Pixels {
     let mut pixels = Pixels { bright: 0, sum: 0 };
-    let mut i = HEAD;
-    while i < bytes.len() {
-        pixels = with_pixel(pixels, bytes[i]);
-        i += 1;
+    for shade in bytes.iter().skip(HEAD) {
+        pixels = with_pixel(pixels, *shade);
     }
     pixels
 }
@@ -53,11 +51,10 @@ fn tell_bytes<R: Print>(rt: &R, bytes: &[u8]) {
 // Tells of the picture, if there is one, and removes it.
 pub fn tell<R: Files + Print>(rt: &R) {
     let mut bytes = [0u8; HEAD + CELLS + 1];
-    let mut n = 0;
-    match fs::open(rt, "box.pgm") {
-        Ok(mut file) => n = read_full(&mut file, &mut bytes),
-        Err(_) => return,
-    }
+    let Ok(mut file) = fs::open(rt, "box.pgm") else {
+        return;
+    };
+    let n = read_full(&mut file, &mut bytes);
     tell_bytes(rt, first(&bytes, n));
     let _ = fs::remove_file(rt, "box.pgm");
 }

@@ -8,11 +8,12 @@ use lib.Dec.{eqb}
 use lib.ListN.{length, take}
 use Rattle.lent.specs.Memory.{Memory}
 use Rattle.grammar.specs.declared.Line.TheVariants as line
+use Rattle.std.specs.Prelude.{Option, None, Some, IfSome, option_to_list}
 use Rattle.course.specs.declared.Complaint.{Complaint}
 use Rattle.course.specs.declared.Course.{Course}
 use Rattle.course.specs.declared.Manner.{Manner}
 use Rattle.course.specs.declared.Place.{Place}
-use Rattle.course.specs.Desk.{Desk, desk, called_all, numbered_from, complaints_of}
+use Rattle.course.specs.Desk.{Desk, desk, called_all, numbered_from}
 use Rattle.course.specs.Reader.{Reader, read_after, line_ended, all_read, last_read, desk_at}
 use Rattle.course.proofs.Claimed.{runs}
 use Rattle.feeding.specs.Feeding.{between}
@@ -76,7 +77,7 @@ running-then true h = refl
 running-then false h = absurd (h refl)
 
 module _ (w : Manner) (r : Run) (piece : List ℕ) (piece-long : length (take r.have piece) ≡ r.have) (s : Standing r) where
-  module _ {calls numbers line : List ℕ} {m : Memory} {events : List ℕ} {c : Course} {p : Place} {calls' numbers' line' : List ℕ} {m' : Memory} {events' : List ℕ} {complaint : Complaint} {out left : List ℕ} {end : ℕ}
+  module _ {calls numbers line : List ℕ} {m : Memory} {events : List ℕ} {c : Course} {p : Place} {calls' numbers' line' : List ℕ} {m' : Memory} {events' : List ℕ} {complaint : Option Complaint} {out left : List ℕ} {end : ℕ}
       (k : Steps w r.place calls numbers line (take r.have piece) (desk r.course m events) p calls' numbers' line' c m' events' complaint out left end) where
     step-stands : (r.place.running ≡ false → r.place.at < r.have) → Standing (after_step r c p)
     step-stands bytes_left = record {
@@ -92,7 +93,7 @@ module _ (w : Manner) (r : Run) (piece : List ℕ) (piece-long : length (take r.
     step-goes = record {
       bytes = passed;
       said = k.text;
-      complaints = complaints_of complaint;
+      complaints = option_to_list complaint;
       read = by r.more refl;
       once = λ e. e;
     }
@@ -100,7 +101,7 @@ module _ (w : Manner) (r : Run) (piece : List ℕ) (piece-long : length (take r.
         passed : List ℕ
         passed = between r.place.at p.at (take r.have piece)
 
-        by : (b : Bool) → r.more ≡ b → read_on b b w passed (reader_in w r calls numbers line m events) ≡ read_after k.text (complaints_of complaint) (reader_in w (after_step r c p) calls' numbers' line' m' events')
+        by : (b : Bool) → r.more ≡ b → read_on b b w passed (reader_in w r calls numbers line m events) ≡ read_after k.text (option_to_list complaint) (reader_in w (after_step r c p) calls' numbers' line' m' events')
         by true e = k.read
         by false e =
             let none : p.at - r.place.at ≡ 0 = let a = s.passed e in let d = k.inside in omega (arith, piece-long) in
@@ -195,7 +196,7 @@ nothing-waits w p calls numbers d none due =
     let z : p.waiting - p.next ≡ 0 = omega arith in
     rw (due, z)
 
-pub read_whole : (w : Manner) (c : Course) (r : Run) (calls numbers line calls' numbers' line' : List ℕ) (m m' : Memory) (events events' : List ℕ) → Standing r
+read_whole : (w : Manner) (c : Course) (r : Run) (calls numbers line calls' numbers' line' : List ℕ) (m m' : Memory) (events events' : List ℕ) → Standing r
     → Goes w true r.more (reader_in w (beginning_with c) calls numbers line m events) (reader_in w r calls' numbers' line' m' events')
     → r.course.stopped ≡ false → r.more ≡ false → r.place.running ≡ false → ReadWhole w (desk c m events) r.course m' events'
 unfolding called_all numbered_from
@@ -205,3 +206,12 @@ read_whole w c r calls numbers line calls' numbers' line' m m' events events' s 
     let end = nothing-waits w r.place calls' numbers' (desk r.course m' events') none due in
     let read = rw more at g.read in
     record { text = g.bytes; said = g.said; complaints = g.complaints; not_stopped = on; desk_is = ap (λ (x : Reader). x.desk) read ∙ rw end }
+
+-- and so where the course is given only then
+pub read_if_whole : (after : Option Course) (w : Manner) (c : Course) (r : Run) (calls numbers line calls' numbers' line' : List ℕ) (m m' : Memory) (events events' : List ℕ)
+    → Standing r → Goes w true r.more (reader_in w (beginning_with c) calls numbers line m events) (reader_in w r calls' numbers' line' m' events')
+    → IfSome after (λ x. (x ≡ r.course) × (r.course.stopped ≡ false) × (r.more ≡ false) × (r.place.running ≡ false))
+    → IfSome after (λ x. ReadWhole w (desk c m events) x m' events')
+read_if_whole None w c r calls numbers line calls' numbers' line' m m' events events' s g h = tt
+read_if_whole (Some x) w c r calls numbers line calls' numbers' line' m m' events events' s g h =
+    rw h.0 (read_whole w c r calls numbers line calls' numbers' line' m m' events events' s g h.1 h.2 h.3)

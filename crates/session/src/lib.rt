@@ -1,7 +1,7 @@
 // The history's file is read in pieces and run step by step, so memory does not grow with it. What each step said is written at once.
 #![tactic(auto)]
 
-ghost use Rattle.std.specs.Prelude.{◌≡◌, true, false};
+ghost use Rattle.std.specs.Prelude.{◌≡◌, false, IfSome};
 ghost use Rattle.course.specs.Desk.{desk};
 ghost use Rattle.session.specs.Going.{beginning_with, ReadWhole};
 
@@ -34,13 +34,6 @@ pub struct Run {
     pub failed: bool,
 }
 
-// The course of a run, and whether the file was read whole and all calls in it were run.
-#[derive(Clone, Copy)]
-pub struct Read {
-    pub course: Course,
-    pub whole: bool,
-}
-
 // Nothing is read yet.
 fn beginning(course: Course) -> Run
     ensures { result ≡ beginning_with course }
@@ -64,25 +57,18 @@ fn beginning(course: Course) -> Run
     }
 }
 
-// Whether the text was read up to its end and all was done.
-fn is_whole(run: Run) -> bool
-    ensures { result ≡ true → (run.course.stopped ≡ false) × (run.more ≡ false) × (run.place.running ≡ false) }
+// The course, if the text was read up to its end and all was done.
+fn whole(run: Run) -> Option<Course>
+    ensures { IfSome result (λ after. (after ≡ run.course) × (run.course.stopped ≡ false) × (run.more ≡ false) × (run.place.running ≡ false)) }
 {
-    let course = run.course;
-    let place = run.place;
-    if course.stopped {
-        return false;
+    if run.course.stopped | run.more | run.place.running | run.failed {
+        None
+    } else {
+        Some(run.course)
     }
-    if run.more {
-        return false;
-    }
-    if place.running {
-        return false;
-    }
-    !run.failed
 }
 
-// Runs the open file's text on the flash in lent memory.
+// Runs the open file's text on the flash in lent memory, and gives the course if the file was read whole.
 fn read_file<R: Print + Eprint, F: io::Read, S: Print>(
     rt: &R,
     file: &mut F,
@@ -95,8 +81,8 @@ fn read_file<R: Print + Eprint, F: io::Read, S: Print>(
     charges: &mut Charges,
     events: &mut Events,
     out: &mut Buffer,
-) -> Read
-    ensures { result.whole ≡ true → ReadWhole manner (desk course (record { bytes = «record».old; array = array.old; charges = charges.old }) events.old) result.course (record { bytes = «record».new; array = array.new; charges = charges.new }) events.new }
+) -> Option<Course>
+    ensures { IfSome result (λ after. ReadWhole manner (desk course (record { bytes = «record».old; array = array.old; charges = charges.old }) events.old) after (record { bytes = «record».new; array = array.new; charges = charges.new }) events.new) }
 {
     let mut calls = [0u64; NUMBERS * ROOM];
     let mut numbers = [0u64; ROOM];
@@ -119,14 +105,11 @@ fn read_file<R: Print + Eprint, F: io::Read, S: Print>(
         &mut piece,
         out,
     );
-    let after = run.course;
-    Read {
-        course: after,
-        whole: is_whole(run),
-    }
+    whole(run)
 }
 
-// Runs the history in a file on the flash in lent memory. What it says goes to standard output, its complaints to the writer that is lent for them.
+// Runs the history in a file on the flash in lent memory, and gives the course of the run if the file was read whole and all calls in it were run. What
+// it says goes to standard output, its complaints to the writer that is lent for them.
 pub fn read_history<R: Files + Print + Eprint, S: Print>(
     rt: &R,
     path: &[u8],
@@ -138,8 +121,8 @@ pub fn read_history<R: Files + Print + Eprint, S: Print>(
     charges: &mut Charges,
     events: &mut Events,
     out: &mut Buffer,
-) -> Read
-    ensures { result.whole ≡ true → ReadWhole manner (desk course (record { bytes = «record».old; array = array.old; charges = charges.old }) events.old) result.course (record { bytes = «record».new; array = array.new; charges = charges.new }) events.new }
+) -> Option<Course>
+    ensures { IfSome result (λ after. ReadWhole manner (desk course (record { bytes = «record».old; array = array.old; charges = charges.old }) events.old) after (record { bytes = «record».new; array = array.new; charges = charges.new }) events.new) }
 {
     match open(rt, path) {
         Some(mut file) => read_file(
@@ -147,10 +130,7 @@ pub fn read_history<R: Files + Print + Eprint, S: Print>(
         ),
         None => {
             say_not_opened(says, path);
-            Read {
-                course,
-                whole: false,
-            }
+            None
         }
     }
 }

@@ -3,6 +3,7 @@ ghost use Rattle.std.specs.Prelude.{◌≡◌, true, false, ◌≤◌};
 ghost use Rattle.session.specs.Going.{Standing, with_piece, with_failure, Moves};
 
 use crate::{Piece, Run};
+use course::Place;
 use course::memory::{Bytes, Calls, Numbers};
 use std::io::Read;
 use steps::reading::close;
@@ -12,15 +13,10 @@ use telling::saying::say_not_read;
 fn with_piece(run: Run, have: usize) -> Run
     ensures { result ≡ with_piece have run }
 {
-    let course = run.course;
-    let mut place = run.place;
-    place.at = 0;
     Run {
-        course,
-        place,
+        place: Place { at: 0, ..run.place },
         have,
-        more: run.more,
-        failed: run.failed,
+        ..run
     }
 }
 
@@ -29,23 +25,20 @@ fn closed(run: Run, line: &Bytes, calls: &mut Calls, numbers: &mut Numbers) -> R
     requires { Standing run × (run.place.running ≡ false) × (run.have ≤ run.place.at) × (run.more ≡ true) }
     ensures { Moves run calls.old numbers.old line.now result calls.new numbers.new }
 {
-    let course = run.course;
-    let place = run.place;
     Run {
-        course,
-        place: close(place, line, calls, numbers),
-        have: run.have,
+        place: close(run.place, line, calls, numbers),
         more: false,
-        failed: run.failed,
+        ..run
     }
 }
 
 fn with_failure(run: Run) -> Run
     ensures { result ≡ with_failure run }
 {
-    let mut r = run;
-    r.failed = true;
-    r
+    Run {
+        failed: true,
+        ..run
+    }
 }
 
 // The next piece of the file, or its end.

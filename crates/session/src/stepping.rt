@@ -31,13 +31,10 @@ fn step_in_piece(
     requires { Standing run × (run.course.stopped ≡ false) }
     ensures { (length (take run.have piece.now) ≡ run.have) × Steps manner run.place calls.old numbers.old line.old (take run.have piece.now) (desk run.course (record { bytes = «record».old; array = array.old; charges = charges.old }) events.old) result.place calls.new numbers.new line.new result.course (record { bytes = «record».new; array = array.new; charges = charges.new }) events.new result.complaint out.old out.new result.end }
 {
-    let course = run.course;
-    let place = run.place;
-    let bytes: &[u8] = piece;
     step(
-        course,
+        run.course,
         manner,
-        place,
+        run.place,
         record,
         array,
         charges,
@@ -45,7 +42,7 @@ fn step_in_piece(
         calls,
         numbers,
         line,
-        &bytes[..run.have],
+        &piece[..run.have],
         out,
     )
 }
@@ -80,17 +77,11 @@ pub fn next_step<R: Print + Eprint, S: Print>(
     let s = step_in_piece(
         run, manner, record, array, charges, events, calls, numbers, line, piece, out,
     );
-    let course = s.course;
-    let place = s.place;
-    let complaint = s.complaint;
-    let before = run.place;
-    tell(rt, says, manner.go_on, out, s.end, line, complaint);
-    note_lines(rt, before.lines, place.lines);
+    tell(rt, says, manner.go_on, out, s.end, line, s.complaint);
+    note_lines(rt, run.place.lines, s.place.lines);
     Run {
-        course,
-        place,
-        have: run.have,
-        more: run.more,
-        failed: run.failed,
+        course: s.course,
+        place: s.place,
+        ..run
     }
 }

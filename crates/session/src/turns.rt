@@ -1,5 +1,5 @@
 // A run goes on turn by turn: a step, or a new piece.
-ghost use Rattle.std.specs.Prelude.{◌≡◌, ◌<◌};
+ghost use Rattle.std.specs.Prelude.{◌≡◌};
 ghost use Rattle.session.specs.Going.{Standing, Goes, CanStep, reader_in};
 
 use crate::pieces::next_piece;
@@ -13,11 +13,7 @@ use std::io::Read;
 fn can_step(run: Run) -> bool
     ensures { CanStep run result }
 {
-    let place = run.place;
-    if place.running {
-        return true;
-    }
-    place.at < run.have
+    run.place.running | (run.place.at < run.have)
 }
 
 // A step where one can be taken, else a piece where the file may have one.
@@ -41,35 +37,25 @@ fn turn<R: Print + Eprint, F: Read, S: Print>(
     requires { Standing run }
     ensures { Standing result × Goes manner run.more result.more (reader_in manner run calls.old numbers.old line.old (record { bytes = «record».old; array = array.old; charges = charges.old }) events.old) (reader_in manner result calls.new numbers.new line.new (record { bytes = «record».new; array = array.new; charges = charges.new }) events.new) }
 {
-    let course = run.course;
-    if course.stopped {
-        return run;
-    }
-    if can_step(run) {
-        return next_step(
+    if run.course.stopped {
+        run
+    } else if can_step(run) {
+        next_step(
             rt, run, says, manner, record, array, charges, events, calls, numbers, line, piece, out,
-        );
+        )
+    } else if run.more {
+        next_piece(file, path, says, run, line, calls, numbers, piece)
+    } else {
+        run
     }
-    if run.more {
-        return next_piece(file, path, says, run, line, calls, numbers, piece);
-    }
-    run
 }
 
-// How many turns may still come. A proved loop has to end, and nothing says that a file does, so the turns are counted down.
-fn turns_after(turns: u64, run: Run) -> u64
-    requires { 0 < turns }
-    ensures { result < turns }
-{
-    let course = run.course;
-    let place = run.place;
-    if course.stopped | run.failed | (!run.more & !place.running) {
-        return 0;
-    }
-    turns - 1
+// Whether no turn does anything any more.
+fn is_over(run: Run) -> bool {
+    run.course.stopped | run.failed | (!run.more & !run.place.running)
 }
 
-// Turn after turn.
+// Turn after turn. A proved loop has to end, and nothing says that a file does, so the turns are counted.
 pub fn take_turns<R: Print + Eprint, F: Read, S: Print>(
     rt: &R,
     file: &mut F,
@@ -91,13 +77,14 @@ pub fn take_turns<R: Print + Eprint, F: Read, S: Print>(
     ensures { Standing result × Goes manner run.more result.more (reader_in manner run calls.old numbers.old line.old (record { bytes = «record».old; array = array.old; charges = charges.old }) events.old) (reader_in manner result calls.new numbers.new line.new (record { bytes = «record».new; array = array.new; charges = charges.new }) events.new) }
 {
     let mut r = run;
-    let mut turns = u64::MAX;
-    while turns > 0 {
+    'turns: for _ in 0..u64::MAX {
         r = turn(
             rt, file, path, says, manner, r, record, array, charges, events, calls, numbers, line,
             piece, out,
         );
-        turns = turns_after(turns, r);
+        if is_over(r) {
+            break;
+        }
     }
     r
 }

@@ -9,12 +9,12 @@ use native.Mathlib.Omega.{arith}
 use lib.ListN.{length}
 use Rattle.lent.specs.Memory.{Memory}
 use Rattle.text.proofs.Joined.{puts_none}
+use Rattle.std.specs.Prelude.{Option, None, option_to_list}
 use Rattle.course.specs.declared.Complaint.{Complaint}
-use Rattle.course.specs.declared.Complaint.TheVariants as complaint
 use Rattle.course.specs.declared.Course.{Course}
 use Rattle.course.specs.declared.Manner.{Manner}
 use Rattle.course.specs.declared.Place.{Place}
-use Rattle.course.specs.Desk.{Desk, desk, after_saying, line_done, called_all, numbered_from, complaints_of, Leaves}
+use Rattle.course.specs.Desk.{Desk, desk, after_saying, line_done, called_all, numbered_from, Leaves}
 use Rattle.course.specs.Reader.{all_read, reader_at}
 use Rattle.course.proofs.Claimed.{runs}
 use Rattle.steps.specs.Stepping.{Sound, run_up_to, all_done, Does, Reads, Steps}
@@ -31,13 +31,13 @@ calls-split w (suc a) b i calls numbers d =
     rw (e, f) (calls-split w a b (suc i) calls numbers _)
 
 -- a desk by what a function shows of it
-shown : {d : Desk} {c : Course} {m : Memory} {events : List ℕ} {complaint : Complaint} {out left : List ℕ} {end : ℕ}
-    → Leaves d c m events complaint out left end → d ≡ after_saying d.said (complaints_of complaint) (desk c m events)
+shown : {d : Desk} {c : Course} {m : Memory} {events : List ℕ} {complaint : Option Complaint} {out left : List ℕ} {end : ℕ}
+    → Leaves d c m events complaint out left end → d ≡ after_saying d.said (option_to_list complaint) (desk c m events)
 shown {d} l = rw (append-nil, append-nil, l.course_is, l.memory_is, l.events_are, l.complaints_are)
 
 -- ---- places
 
-pub run-up-to : {w : Manner} {p : Place} {calls numbers : List ℕ} {d : Desk} {c : Course} {m : Memory} {events : List ℕ} {complaint : Complaint} {out left : List ℕ} {end : ℕ}
+pub run-up-to : {w : Manner} {p : Place} {calls numbers : List ℕ} {d : Desk} {c : Course} {m : Memory} {events : List ℕ} {complaint : Option Complaint} {out left : List ℕ} {end : ℕ}
     → (next : ℕ) → Sound p → p.running ≡ true → p.next < next → next ≤ p.waiting
     → Leaves (called_all w (numbered_from (next - p.next) p.next calls numbers) d) c m events complaint out left end
     → Does w p calls numbers d (run_up_to next p) c m events complaint out left end
@@ -70,7 +70,7 @@ run-up-to {w} {p} {calls} {numbers} {d} {c} {m} {events} {complaint} next s runn
         rw e (calls-split w (next - p.next) (p.waiting - next) p.next calls numbers d ∙ rw f)
 
 -- a call is not due, so what is due needs no event words
-pub all_done_lem : {w : Manner} {p : Place} {d : Desk} {c : Course} {m : Memory} {events : List ℕ} {complaint : Complaint} {out left : List ℕ} {end : ℕ}
+pub all_done_lem : {w : Manner} {p : Place} {d : Desk} {c : Course} {m : Memory} {events : List ℕ} {complaint : Option Complaint} {out left : List ℕ} {end : ℕ}
     → (calls numbers : List ℕ) → Sound p → p.waiting ≤ p.next → Leaves (line_done w p.lines p.due d) c m events complaint out left end
     → Does w p calls numbers d (all_done p) c m events complaint out left end
 unfolding called_all numbered_from
@@ -92,7 +92,7 @@ all_done_lem {w} {p} {d} calls numbers s none l = record {
 
 -- ---- steps
 
-pub ran_on : {w : Manner} {p : Place} {calls numbers : List ℕ} {d : Desk} {p' : Place} {c : Course} {m : Memory} {events : List ℕ} {complaint : Complaint} {out left : List ℕ} {end : ℕ}
+pub ran_on : {w : Manner} {p : Place} {calls numbers : List ℕ} {d : Desk} {p' : Place} {c : Course} {m : Memory} {events : List ℕ} {complaint : Option Complaint} {out left : List ℕ} {end : ℕ}
     → (line piece : List ℕ) → p.at ≤ length piece → Does w p calls numbers d p' c m events complaint out left end
     → Steps w p calls numbers line piece d p' calls numbers line c m events complaint out left end
 unfolding all_read
@@ -110,7 +110,7 @@ ran_on {w} {p} {calls} {numbers} {d} {p'} line piece inside k = record {
 
 pub did_read : {p : Place} {calls numbers line piece : List ℕ} {p' : Place} {calls' numbers' line' : List ℕ}
     → (w : Manner) (c : Course) (m : Memory) (events out : List ℕ) → p.running ≡ false → Reads p calls numbers line piece p' calls' numbers' line'
-    → Steps w p calls numbers line piece (desk c m events) p' calls' numbers' line' c m events complaint.Nothing out out 0
+    → Steps w p calls numbers line piece (desk c m events) p' calls' numbers' line' c m events None out out 0
 did_read w c m events out reading r = record {
   text = [];
   said_is = puts_none 0 out;
@@ -120,3 +120,5 @@ did_read w c m events out reading r = record {
   sound = r.sound;
   none_left = λ running. absurd (true≢false (sym running ∙ reading));
 }
+
+pub ruleset moved = (run-up-to, all_done_lem, ran_on, did_read)

@@ -1,6 +1,6 @@
 -- One step of a run on lent memory, and the end of its text. The text that a step said and what it complained of, followed by what is still
 -- to come of the calls that wait and the line that is due, is what the bytes read do by the definition of a run. Assumes nothing.
-use Rattle.std.specs.Prelude.{ℕ, ◌≤◌, ◌≡◌, Bool, true, false, List, [], length}
+use Rattle.std.specs.Prelude.{ℕ, ◌≤◌, ◌≡◌, Bool, true, false, List, [], length, Option, option_to_list}
 use Rattle.lent.specs.Memory.{Memory}
 use Rattle.grammar.specs.declared.Line.{Line}
 use Rattle.grammar.specs.declared.Line.TheVariants.{Nothing}
@@ -10,7 +10,7 @@ use Rattle.course.specs.declared.Complaint.{Complaint}
 use Rattle.course.specs.declared.Course.{Course}
 use Rattle.course.specs.declared.Manner.{Manner}
 use Rattle.course.specs.declared.Place.{Place}
-use Rattle.course.specs.Desk.{Desk, desk, after_saying, complaints_of}
+use Rattle.course.specs.Desk.{Desk, desk, after_saying}
 use Rattle.course.specs.Reader.{Reader, longest, all_read, read_after, reader_at, desk_at, last_read}
 use Rattle.feeding.specs.Feeding.{between}
 use Rattle.taking.specs.Taking.{room, Reading}
@@ -54,10 +54,10 @@ abbrev pub reader_of : Manner → Place → List ℕ → List ℕ → List ℕ �
 reader_of w p calls numbers line d = reader_at (desk_at w p calls numbers d) p line
 
 -- Some of what waits was done, on a desk that is d now, and the place is p'.
-pub record Does (w : Manner) (p : Place) (calls numbers : List ℕ) (before : Desk) (p' : Place) (c : Course) (m : Memory) (events : List ℕ) (complaint : Complaint) (out left : List ℕ) (end : ℕ) : Type 0 where
+pub record Does (w : Manner) (p : Place) (calls numbers : List ℕ) (before : Desk) (p' : Place) (c : Course) (m : Memory) (events : List ℕ) (complaint : Option Complaint) (out left : List ℕ) (end : ℕ) : Type 0 where
   pub text : List ℕ
   pub said_is : Puts text 0 out left end
-  pub desk_is : desk_at w p calls numbers before ≡ after_saying text (complaints_of complaint) (desk_at w p' calls numbers (desk c m events))
+  pub desk_is : desk_at w p calls numbers before ≡ after_saying text (option_to_list complaint) (desk_at w p' calls numbers (desk c m events))
   pub same_reader : (d : Desk) (line : List ℕ) → reader_at d p line ≡ reader_at d p' line
   pub same_byte : p.at ≡ p'.at
   pub sound : Sound p'
@@ -73,12 +73,12 @@ pub record Reads (p : Place) (calls numbers line piece : List ℕ) (p' : Place) 
   pub sound : Sound p'
 
 -- A step was taken.
-pub record Steps (w : Manner) (p : Place) (calls numbers line piece : List ℕ) (before : Desk) (p' : Place) (calls' numbers' line' : List ℕ) (c : Course) (m : Memory) (events : List ℕ) (complaint : Complaint) (out left : List ℕ) (end : ℕ) : Type 0 where
+pub record Steps (w : Manner) (p : Place) (calls numbers line piece : List ℕ) (before : Desk) (p' : Place) (calls' numbers' line' : List ℕ) (c : Course) (m : Memory) (events : List ℕ) (complaint : Option Complaint) (out left : List ℕ) (end : ℕ) : Type 0 where
   pub text : List ℕ
   pub said_is : Puts text 0 out left end
   -- the bytes that were passed are read
   pub read : all_read w (between p.at p'.at piece) (reader_of w p calls numbers line before)
-      ≡ read_after text (complaints_of complaint) (reader_of w p' calls' numbers' line' (desk c m events))
+      ≡ read_after text (option_to_list complaint) (reader_of w p' calls' numbers' line' (desk c m events))
   pub onward : p.at ≤ p'.at
   pub inside : p'.at ≤ length piece
   pub sound : Sound p'

@@ -7,16 +7,6 @@ use course::{Complaint, Course, Manner, after_left_out};
 use grammar::Line;
 use voices::{Seeing, look};
 
-fn nothing_due(course: Course) -> Seeing
-    ensures { result ≡ record { course = course; complaint = None; end = 0 } }
-{
-    Seeing {
-        course,
-        complaint: None,
-        end: 0,
-    }
-}
-
 // Calls are not due: they wait.
 pub fn do_due(
     course: Course,
@@ -32,8 +22,11 @@ pub fn do_due(
     ensures { (events : List ℕ) → Leaves (line_done manner number due (desk course (record { bytes = «record».now; array = array.now; charges = charges.now }) events)) result.course (record { bytes = «record».now; array = array.now; charges = charges.now }) events result.complaint out.old out.new result.end }
 {
     match due {
-        Line::Nothing => nothing_due(course),
-        Line::Call(_, _) => nothing_due(course),
+        Line::Nothing | Line::Call(_, _) => Seeing {
+            course,
+            complaint: None,
+            end: 0,
+        },
         Line::Look(time, looking) => {
             look(
                 course, manner, record, array, charges, number, time, looking, out,

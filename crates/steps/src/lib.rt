@@ -27,6 +27,7 @@ pub struct Stepped {
 }
 
 // The next step: what waits is done where it is to be, else bytes of the piece are read.
+#[tactic(auto, using(crate::proofs::Desks::moved))]
 pub fn step(
     course: Course,
     manner: Manner,
@@ -45,14 +46,15 @@ pub fn step(
     ensures { Steps manner place calls.old numbers.old line.old piece.now (desk course (record { bytes = «record».old; array = array.old; charges = charges.old }) events.old) result.place calls.new numbers.new line.new result.course (record { bytes = «record».new; array = array.new; charges = charges.new }) events.new result.complaint out.old out.new result.end }
 {
     if place.running {
-        return run_on(
+        run_on(
             course, manner, place, record, array, charges, events, calls, numbers, out,
-        );
-    }
-    Stepped {
-        course,
-        place: read_lines(place, piece, line, calls, numbers),
-        complaint: None,
-        end: 0,
+        )
+    } else {
+        Stepped {
+            course,
+            place: read_lines(place, piece, line, calls, numbers),
+            complaint: None,
+            end: 0,
+        }
     }
 }

@@ -8,32 +8,26 @@ use grammar::Line;
 pub fn run_up_to(place: Place, next: usize) -> Place
     ensures { result ≡ run_up_to next place }
 {
-    let mut p = place;
-    p.next = next;
-    p
+    Place { next, ..place }
 }
 
 pub fn all_done(place: Place) -> Place
     ensures { result ≡ all_done place }
 {
-    let before = place.before;
     Place {
-        before,
-        lines: place.lines,
-        length: place.length,
-        long: place.long,
         waiting: 0,
         next: 0,
         due: Line::Nothing,
         running: false,
-        at: place.at,
+        ..place
     }
 }
 
 pub fn to_run(place: Place) -> Place
     ensures { result ≡ to_run place }
 {
-    let mut p = place;
-    p.running = true;
-    p
+    Place {
+        running: true,
+        ..place
+    }
 }

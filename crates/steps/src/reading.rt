@@ -31,10 +31,7 @@ fn read_on(
 fn reads_on(place: Place, have: usize) -> bool
     ensures { result ≡ true → (place.running ≡ false) × (place.at < have) }
 {
-    if place.running {
-        return false;
-    }
-    place.at < have
+    !place.running & (place.at < have)
 }
 
 // All bytes of the piece, or those up to a line after which what waits is to be done.
@@ -63,7 +60,8 @@ pub fn close(place: Place, line: &Bytes, calls: &mut Calls, numbers: &mut Number
     // As a slice, so that its length is known.
     let bytes: &[u8] = line;
     if place.length == 0 {
-        return to_run(place);
+        to_run(place)
+    } else {
+        to_run(take_line(place, line, calls, numbers))
     }
-    to_run(take_line(place, line, calls, numbers))
 }

@@ -11,6 +11,7 @@ use course::{Course, Manner, Place};
 use serving::serve;
 
 // The calls that wait are run up to one that has something to tell.
+#[tactic(auto, using(crate::proofs::Desks::moved))]
 fn serve_some(
     course: Course,
     manner: Manner,
@@ -31,17 +32,16 @@ fn serve_some(
     let served = serve(
         course, manner, record, array, charges, events, calls, numbers, next, waiting, out,
     );
-    let after = served.course;
-    let complaint = served.complaint;
     Stepped {
-        course: after,
+        course: served.course,
         place: run_up_to(place, served.next),
-        complaint,
+        complaint: served.complaint,
         end: served.end,
     }
 }
 
 // No call waits any more, and the line that is due is done.
+#[tactic(auto, using(crate::proofs::Desks::moved))]
 fn finish_due(
     course: Course,
     manner: Manner,
@@ -54,23 +54,20 @@ fn finish_due(
     requires { Sound place × (place.waiting ≤ place.next) × (course.stopped ≡ false) }
     ensures { (calls numbers events : List ℕ) → Does manner place calls numbers (desk course (record { bytes = «record».now; array = array.now; charges = charges.now }) events) result.place result.course (record { bytes = «record».now; array = array.now; charges = charges.now }) events result.complaint out.old out.new result.end }
 {
-    let due = place.due;
     let done = do_due(
         course,
         manner,
         place.lines,
-        due,
+        place.due,
         record,
         array,
         charges,
         out,
     );
-    let after = done.course;
-    let complaint = done.complaint;
     Stepped {
-        course: after,
+        course: done.course,
         place: all_done(place),
-        complaint,
+        complaint: done.complaint,
         end: done.end,
     }
 }
@@ -91,9 +88,10 @@ pub fn run_on(
     ensures { Does manner place calls.now numbers.now (desk course (record { bytes = «record».old; array = array.old; charges = charges.old }) events.old) result.place result.course (record { bytes = «record».new; array = array.new; charges = charges.new }) events.new result.complaint out.old out.new result.end }
 {
     if place.next < place.waiting {
-        return serve_some(
+        serve_some(
             course, manner, place, record, array, charges, events, calls, numbers, out,
-        );
+        )
+    } else {
+        finish_due(course, manner, place, record, array, charges, out)
     }
-    finish_due(course, manner, place, record, array, charges, out)
 }

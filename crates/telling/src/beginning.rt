@@ -15,19 +15,13 @@ fn begin_empty(record: &mut [u8], array: &mut [u8], charges: &[u64]) -> bool {
     make(&image, record, array, charges.len()).is_ok()
 }
 
-// A file in the buffer: how many bytes, or why not.
-#[derive(Clone, Copy)]
-enum Loaded {
-    Bytes(usize),
-    Nothing,
-}
-
-fn load<R: Files, S: Print>(rt: &R, path: &[u8], says: &S, buffer: &mut [u8]) -> Loaded {
+// A file in the buffer: how many bytes, unless it can't be opened, which is then said.
+fn load<R: Files, S: Print>(rt: &R, path: &[u8], says: &S, buffer: &mut [u8]) -> Option<usize> {
     match open(rt, path) {
-        Some(mut file) => Loaded::Bytes(read_full(&mut file, buffer)),
+        Some(mut file) => Some(read_full(&mut file, buffer)),
         None => {
             say_not_opened(says, path);
-            Loaded::Nothing
+            None
         }
     }
 }
@@ -41,10 +35,9 @@ fn begin_from_image<R: Files, S: Print>(
     charges: &[u64],
     buffer: &mut [u8],
 ) -> bool {
-    let loaded = load(rt, path, says, buffer);
-    match loaded {
-        Loaded::Nothing => false,
-        Loaded::Bytes(n) => {
+    match load(rt, path, says, buffer) {
+        None => false,
+        Some(n) => {
             if n != FLASH_SIZE {
                 say_image_length(says, path, n as u64);
                 return false;
@@ -64,10 +57,9 @@ fn begin_from_snapshot<R: Files, S: Print>(
     charges: &mut [u64],
     buffer: &mut [u8],
 ) -> bool {
-    let loaded = load(rt, path, says, buffer);
-    match loaded {
-        Loaded::Nothing => false,
-        Loaded::Bytes(n) => {
+    match load(rt, path, says, buffer) {
+        None => false,
+        Some(n) => {
             let last = Time(u64::MAX - 1, u64::MAX);
             match read_snapshot(first(buffer, n), record, array, charges, last) {
                 Ok(()) => true,
@@ -90,10 +82,10 @@ pub fn begin<R: Files, S: Print>(
     charges: &mut [u64],
     buffer: &mut [u8],
 ) -> bool {
-    if 0 < image.len() {
+    if !image.is_empty() {
         return begin_from_image(rt, image, says, record, array, charges, buffer);
     }
-    if 0 < snapshot.len() {
+    if !snapshot.is_empty() {
         return begin_from_snapshot(rt, snapshot, says, record, array, charges, buffer);
     }
     begin_empty(record, array, charges)

@@ -31,7 +31,7 @@ pub fn snapshot_drafted<R: Files, S: Print>(
     charges: &[u64],
     buffer: &mut [u8],
 ) -> bool {
-    if path.len() == 0 {
+    if path.is_empty() {
         return true;
     }
     let Ok(length) = write_snapshot(record, array, charges, buffer) else {
@@ -52,7 +52,7 @@ pub fn picture_drafted<R: Files, S: Print>(
     buffer: &mut [u8],
     time: Time,
 ) -> bool {
-    if path.len() == 0 {
+    if path.is_empty() {
         return true;
     }
     if see_shades(record, array, charges, time, buffer).is_err() {
@@ -66,7 +66,7 @@ pub fn picture_drafted<R: Files, S: Print>(
 
 // A file that was asked for takes its name.
 pub fn kept<R: Files, S: Print>(rt: &R, path: &[u8], says: &S) -> bool {
-    if path.len() == 0 {
+    if path.is_empty() {
         return true;
     }
     if keep(rt, path) {
@@ -79,7 +79,7 @@ pub fn kept<R: Files, S: Print>(rt: &R, path: &[u8], says: &S) -> bool {
 
 // A draft of a file that was asked for is removed.
 pub fn discarded<R: Files>(rt: &R, path: &[u8]) {
-    if 0 < path.len() {
+    if !path.is_empty() {
         discard(rt, path);
     }
 }

@@ -11,6 +11,15 @@ use text::fill;
 // No sentence is longer.
 const ROOM: usize = 4096;
 
+// Writes what a function puts at the start of a slice and answers the end of. Whether it could be written makes no difference.
+fn say<S: Print, F: FnOnce(&mut [u8]) -> usize>(to: &S, put: F)
+    requires { F.IsAlwaysCallable put }
+{
+    let mut text = [0u8; ROOM];
+    let n = put(&mut text);
+    let _ = to.write_all(first(&text, n));
+}
+
 // ---- while the history runs
 
 pub fn say_progress<R: Eprint>(rt: &R, lines: u64) {
@@ -29,37 +38,31 @@ pub fn say_fault<S: Print>(
     goes_on: bool,
 ) {
     if from < ROOM {
-        let mut text = [0u8; ROOM];
-        let n = fault(&mut text, 0, line, from as u64 + 1, word, reason, goes_on);
-        let _ = to.write_all(first(&text, n));
+        let column = from as u64 + 1;
+        say(
+            to,
+            |text| fault(text, 0, line, column, word, reason, goes_on),
+        );
     }
 }
 
 pub fn say_refusal<S: Print>(to: &S, line: u64, why: Refusal) {
-    let mut text = [0u8; ROOM];
-    let n = refusal(&mut text, 0, line, why);
-    let _ = to.write_all(first(&text, n));
+    say(to, |text| refusal(text, 0, line, why));
 }
 
 pub fn say_look_refused<S: Print>(to: &S, line: u64, why: Refusal) {
-    let mut text = [0u8; ROOM];
-    let n = look_refusal(&mut text, 0, line, why);
-    let _ = to.write_all(first(&text, n));
+    say(to, |text| look_refusal(text, 0, line, why));
 }
 
 // No look is possible at the verdict's time.
 pub fn say_unseen<S: Print>(to: &S, why: Refusal) {
-    let mut text = [0u8; ROOM];
-    let n = unseen(&mut text, 0, why);
-    let _ = to.write_all(first(&text, n));
+    say(to, |text| unseen(text, 0, why));
 }
 
 // ---- help and the report
 
 pub fn say_help<R: Print>(rt: &R) {
-    let mut text = [0u8; ROOM];
-    let n = help(&mut text, 0);
-    let _ = rt.write_all(first(&text, n));
+    say(rt, |text| help(text, 0));
 }
 
 // The report, which ends at a place of its text.
@@ -70,31 +73,24 @@ pub fn say_report<R: Print>(rt: &R, text: &[u8], end: usize) {
 // ---- files
 
 pub fn say_not_opened<S: Print>(to: &S, path: &[u8]) {
-    let mut text = [0u8; ROOM];
-    let n = not_opened(&mut text, 0, path);
-    let _ = to.write_all(first(&text, n));
+    say(to, |text| not_opened(text, 0, path));
 }
 
 pub fn say_not_written<S: Print>(to: &S, path: &[u8]) {
-    let mut text = [0u8; ROOM];
-    let n = not_written(&mut text, 0, path);
-    let _ = to.write_all(first(&text, n));
+    say(to, |text| not_written(text, 0, path));
 }
 
 pub fn say_image_length<S: Print>(to: &S, path: &[u8], length: u64) {
-    let mut text = [0u8; ROOM];
-    let n = image_length(&mut text, 0, path, length);
-    let _ = to.write_all(first(&text, n));
+    say(to, |text| image_length(text, 0, path, length));
 }
 
 pub fn say_not_read<S: Print>(to: &S, path: &[u8]) {
-    let mut text = [0u8; ROOM];
-    let n = fill(&mut text, 0, b"wipe: @ could not be read\n", path, &[]);
-    let _ = to.write_all(first(&text, n));
+    say(
+        to,
+        |text| fill(text, 0, b"wipe: @ could not be read\n", path, &[]),
+    );
 }
 
 pub fn say_no_snapshot<S: Print>(to: &S, path: &[u8], why: Refusal) {
-    let mut text = [0u8; ROOM];
-    let n = no_snapshot(&mut text, 0, path, why);
-    let _ = to.write_all(first(&text, n));
+    say(to, |text| no_snapshot(text, 0, path, why));
 }

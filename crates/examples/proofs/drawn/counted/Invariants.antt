@@ -1,9 +1,0 @@
--- The bytes that are left are counted.
-use Rattle.std.proofs.Common.{◌-◌, length}
-use Rattle.examples.proofs.drawn.counted.Given as goal
-
-abbrev pub invariant-loop-i : goal.invariant-loop-i
-invariant-loop-i l = Unit {0}
-
-abbrev pub decreases-loop-i : goal.decreases-loop-i
-decreases-loop-i l = length l.bytes - l.i
