@@ -1,5 +1,5 @@
 // The end of a run: the files that were asked for, the report, and last the verdict.
-use crate::word_in;
+use crate::given_in;
 use course::Course;
 use options::Options;
 use std::rt::Files;
@@ -54,8 +54,8 @@ fn files_written<R: Files, S: Print>(
     buffer: &mut [u8],
     time: Time,
 ) -> bool {
-    let snapshot = word_in(args, options.snapshot);
-    let picture = word_in(args, options.picture);
+    let snapshot = given_in(args, options.snapshot);
+    let picture = given_in(args, options.picture);
     if files_drafted(
         rt, snapshot, picture, says, record, array, charges, buffer, time,
     ) {

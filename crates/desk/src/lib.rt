@@ -9,17 +9,25 @@ use cell::{CELLS, FLASH_SIZE};
 use course::memory::{Array, BUFFER, Buffer, Charges, EVENT_WORDS, Events, Record};
 use course::{Manner, begun};
 use layout::RECORD_LEN;
-use options::{Options, options_of};
+use options::{Asked, Options, options_of};
 use session::read_history;
 use slices::part;
 use std::rt::Files;
 use telling::beginning::{begin, last_settling};
 use telling::saying::say_help;
-use telling::troubles::complained;
+use telling::troubles::complain;
 use words::Word;
 
 pub fn word_in(args: &[u8], word: Word) -> &[u8] {
     part(args, word.from, word.to)
+}
+
+// The word that is given, empty where none is.
+pub fn given_in(args: &[u8], word: Option<Word>) -> &[u8] {
+    match word {
+        Some(word) => word_in(args, word),
+        None => &args[..0],
+    }
 }
 
 // A run on lent memory.
@@ -34,8 +42,8 @@ fn serve<R: Files + Print + Eprint, S: Print>(
     events: &mut Events,
     buffer: &mut Buffer,
 ) {
-    let image = word_in(args, options.image);
-    let snapshot = word_in(args, options.restore);
+    let image = given_in(args, options.image);
+    let snapshot = given_in(args, options.restore);
     if !begin(rt, image, snapshot, says, record, array, charges, buffer) {
         return;
     }
@@ -82,14 +90,9 @@ fn serve_in_memory<R: Files + Print + Eprint, S: Print>(
 // A run of the program with some arguments, which come one after the other, a byte 0 after each. Complaints go to the
 // writer that is lent for them.
 pub fn work<R: Files + Print + Eprint, S: Print>(rt: &R, args: &[u8], says: &S) {
-    let options = options_of(args);
-    if options.help {
-        say_help(rt);
-        return;
+    match options_of(args) {
+        Ok(Asked::Help) => say_help(rt),
+        Ok(Asked::Run(options)) => serve_in_memory(rt, args, options, says),
+        Err(trouble) => complain(says, trouble, args),
     }
-    let trouble = options.trouble;
-    if complained(says, trouble, word_in(args, options.culprit)) {
-        return;
-    }
-    serve_in_memory(rt, args, options, says);
 }

@@ -4,22 +4,15 @@
 
 mod drawn;
 
-use byte_search::find;
-use slices::part;
 use std::rt::Files;
-
-fn type_word<R: Print>(rt: &R, args: &[u8], from: usize, to: usize) {
-    let _ = rt.write_all(b" ");
-    let _ = rt.write_all(part(args, from, to));
-}
 
 // The arguments as they are typed, a space before each.
 fn type_words<R: Print>(rt: &R, args: &[u8]) {
-    let mut from: usize = 0;
-    while from < args.len() {
-        let to = find(args, from, args.len(), 0);
-        type_word(rt, args, from, to);
-        from = to + 1;
+    for word in args.split(|b| *b == 0) {
+        if !word.is_empty() {
+            let _ = rt.write_all(b" ");
+            let _ = rt.write_all(word);
+        }
     }
 }
 
@@ -35,11 +28,10 @@ fn run<R: Files + Print + Eprint>(rt: &R, args: &[u8]) {
 
 // Each line of the list is a run; each word in it has a byte 0 after it.
 fn run_all<R: Files + Print + Eprint>(rt: &R, runs: &[u8]) {
-    let mut at: usize = 0;
-    while at < runs.len() {
-        let end = find(runs, at, runs.len(), b'\n');
-        run(rt, part(runs, at, end));
-        at = end + 1;
+    for line in runs.split(|b| *b == b'\n') {
+        if !line.is_empty() {
+            run(rt, line);
+        }
     }
 }
 

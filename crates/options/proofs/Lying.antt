@@ -13,22 +13,20 @@ use Rattle.cell.specs.Cell.{pages}
 use Rattle.control.specs.Blocks.{erase_range}
 use Rattle.control.specs.declared.Range.{Range}
 use Rattle.digits.specs.Digits.{hex_in}
-use Rattle.digits.specs.declared.Number.{Number}
-use Rattle.digits.specs.declared.Number.TheVariants as number
+use Rattle.digits.specs.declared.NoNumber.{NoNumber}
+use Rattle.std.specs.Prelude.{Option, Some, None, Result, Ok, Err, MatchResult}
+use Rattle.std.specs.Option.{is_some}
 use Rattle.verdict.specs.Blocks.{pages_touched}
-use Rattle.words.specs.Text.{place_of}
 use Rattle.words.specs.declared.Word.{Word}
-use Rattle.options.specs.Arguments.{bytes_of, help_place, image_place, restore_place, picture_place, snapshot_place, block_place, from_place, to_place, history_place, places, names, wants_word, value_below, fits, nowhere, unsaid, said_of, taken, dashed, plain, option, named, valued, step_at}
-use Rattle.options.specs.Options.{instead, refused, block_in, address_in, pages_asked, accepted, ranged, whole, ended}
-use Rattle.options.specs.Inside.{Lies, SaidLies, StageLies, OptionsLie}
+use Rattle.options.specs.Arguments.{bytes_of, help_place, image_place, restore_place, picture_place, snapshot_place, block_place, from_place, to_place, history_place, places, place_named, wants_word, value_below, fits, complaint, said_of, taken, dashed, plain, option, optional, valued, step_at}
+use Rattle.options.specs.Options.{block_in, address_in, pages_asked, range_asked, accepted, run_of, with_history, whole, ended}
+use Rattle.options.specs.Inside.{Lies, GivenLies, SaidLies, TroubleLies, StageLies, OptionsLie, AskedLies}
+use Rattle.options.specs.declared.Asked.{Asked}
 use Rattle.options.specs.declared.Given.{Given}
-use Rattle.options.specs.declared.Said.{Said}
 use Rattle.options.specs.declared.Stage.{Stage}
 use Rattle.options.specs.declared.Stage.TheVariants.{Open, Wants, Helped, Wrong}
 use Rattle.options.specs.declared.Trouble.{Trouble}
-use Rattle.options.specs.declared.Trouble.TheVariants.{NothingAfter, NoHistory, ImageAndRestore, BlockAndAddresses, HalfARange, FromAfterTo}
-use Rattle.options.specs.declared.Trouble.TheVariants as trouble
-use Rattle.options.proofs.Words.{place-within}
+use Rattle.options.proofs.Words.{place_within}
 
 -- what holds of both ways holds of a choice
 either_way : {A : Type 0} (P : A → Type 0) (t : Bool) {x y : A} → P x → P y → P (cond t x y)
@@ -37,20 +35,23 @@ either_way P false p q = q
 
 -- ---- numbers and pages
 
-value-below : (bound : ℕ) (n : Number) → 0 < bound → value_below bound n < bound
-value-below bound (number.Is n) h = by-test (ltb n bound) refl
+value-below : (bound : ℕ) (n : Result ℕ NoNumber) → 0 < bound → value_below bound n < bound
+value-below bound (Ok n) h = by-test (ltb n bound) refl
   where
     by-test : (t : Bool) → ltb n bound ≡ t → cond t n 0 < bound
     by-test true e = ltb-true n bound e
     by-test false e = h
-value-below bound number.TooLarge h = h
-value-below bound number.Not h = h
+value-below bound (Err none) h = h
 
-pub block-below : (args : List ℕ) (s : Said) → block_in args s < 6
-block-below args s = value-below 6 (hex_in 1 (bytes_of args s.word)) (omega arith)
+pub block_below : (args : List ℕ) (o : Option Word) → block_in args o < 6
+block_below args (Some w) = value-below 6 (hex_in 1 (bytes_of args w)) (omega arith)
+block_below args None = omega arith
 
-pub address_below : (args : List ℕ) (s : Said) → address_in args s < 0xC000
-address_below args s = value-below 0xC000 (hex_in 4 (bytes_of args s.word)) (omega arith)
+pub address_below : (args : List ℕ) (o : Option Word) → address_in args o < 0xC000
+address_below args (Some w) = value-below 0xC000 (hex_in 4 (bytes_of args w)) (omega arith)
+address_below args None = omega arith
+
+pub ruleset bounds = (block_below, address_below)
 
 -- a range that lies in the array
 abbrev pub RangeLies : Range → Type 0
@@ -81,108 +82,100 @@ asked-lies blocked block addressed from to f t =
 -- ---- what is given
 
 module _ (args : List ℕ) where
-  pub nowhere-lies : Lies args nowhere
-  nowhere-lies = record { ordered = omega arith; inside = omega arith }
+  pub none_lies : (n : ℕ) → SaidLies args (replicate n None)
+  none_lies zero p = tt
+  none_lies (suc n) zero = tt
+  none_lies (suc n) (suc p) = none_lies n p
 
-  pub unsaid-lies : (n : ℕ) → SaidLies args (replicate n unsaid)
-  unsaid-lies zero p = nowhere-lies
-  unsaid-lies (suc n) zero = nowhere-lies
-  unsaid-lies (suc n) (suc p) = unsaid-lies n p
+  set-lies : (said : List (Option Word)) (p : ℕ) (w : Word) → SaidLies args said → Lies args w → SaidLies args (set said p (Some w))
+  set-lies [] p w all here k = all k
+  set-lies (x ∷ said) zero w all here zero = here
+  set-lies (x ∷ said) zero w all here (suc k) = all (suc k)
+  set-lies (x ∷ said) (suc p) w all here zero = all zero
+  set-lies (x ∷ said) (suc p) w all here (suc k) = set-lies said p w (λ j. all (suc j)) here k
 
-  set-lies : (said : List Said) (p : ℕ) (s : Said) → SaidLies args said → Lies args s.word → SaidLies args (set said p s)
-  set-lies [] p s all here k = all k
-  set-lies (x ∷ said) zero s all here zero = here
-  set-lies (x ∷ said) zero s all here (suc k) = all (suc k)
-  set-lies (x ∷ said) (suc p) s all here zero = all zero
-  set-lies (x ∷ said) (suc p) s all here (suc k) = set-lies said p s (λ j. all (suc j)) here k
-
-  pub record GivenLies (g : Given) : Type 0 where
+  pub record TakenLies (g : Given) : Type 0 where
     pub said : SaidLies args g.said
     pub stage : StageLies args g.stage
 
-  module _ (said : List Said) (w : Word) (all : SaidLies args said) (here : Lies args w) where
-    taken-lies : (p : ℕ) → GivenLies (taken said p w)
-    taken-lies p = record { said = set-lies said p _ all here; stage = tt }
+  complaint-lies : (p : ℕ) (w : Word) → Lies args w → TroubleLies args (complaint p w)
+  complaint-lies p w here = either_way (TroubleLies args) (eqb p 8) here (either_way (TroubleLies args) (eqb p 11) here here)
 
-    plain-lies : GivenLies (plain args said w)
+  module _ (said : List (Option Word)) (w : Word) (all : SaidLies args said) (here : Lies args w) where
+    taken-lies : (p : ℕ) → TakenLies (taken said p w)
+    taken-lies p = record { said = set-lies said p w all here; stage = tt }
+
+    plain-lies : TakenLies (plain args said w)
     unfolding plain
     plain-lies =
-        either_way GivenLies (dashed (bytes_of args w)) (record { said = all; stage = here })
-        (either_way GivenLies (said_of said history_place).given (record { said = all; stage = here }) (taken-lies history_place))
+        either_way TakenLies (dashed (bytes_of args w)) (record { said = all; stage = here })
+        (either_way TakenLies (is_some (said_of said history_place)) (record { said = all; stage = here }) (taken-lies history_place))
 
-    option-lies : (p : ℕ) → p < places → GivenLies (option said p w)
+    option-lies : (p : ℕ) → p < places → TakenLies (option said p w)
     unfolding option
     option-lies p h =
-        either_way GivenLies (said_of said p).given (record { said = all; stage = here })
-        (either_way GivenLies (wants_word p) (record { said = all; stage = (h, here) }) (taken-lies p))
+        either_way TakenLies (is_some (said_of said p)) (record { said = all; stage = here })
+        (either_way TakenLies (wants_word p) (record { said = all; stage = (h, here) }) (taken-lies p))
 
-    named-lies : (p : ℕ) → p < places → GivenLies (named args said p w)
-    unfolding named
-    named-lies p h =
-        either_way GivenLies (eqb p help_place) (record { said = all; stage = tt })
-        (either_way GivenLies (eqb p history_place) plain-lies (option-lies p h))
+    optional-lies : (p : ℕ) → p < places → TakenLies (optional args said p w)
+    unfolding optional
+    optional-lies p h =
+        either_way TakenLies (eqb p help_place) (record { said = all; stage = tt })
+        (either_way TakenLies (eqb p history_place) plain-lies (option-lies p h))
 
-    valued-lies : (p : ℕ) → GivenLies (valued args said p w)
+    valued-lies : (p : ℕ) → TakenLies (valued args said p w)
     unfolding valued
-    valued-lies p = either_way GivenLies (fits p (bytes_of args w)) (taken-lies p) (record { said = all; stage = here })
+    valued-lies p = either_way TakenLies (fits p (bytes_of args w)) (taken-lies p) (record { said = all; stage = complaint-lies p w here })
 
-    pub step-lies : (stage : Stage) → StageLies args stage → GivenLies (step_at args said stage w)
+    pub step-lies : (stage : Stage) → StageLies args stage → TakenLies (step_at args said stage w)
     unfolding step_at
-    step-lies Open h = named-lies (place_of names (bytes_of args w)) (place-within names (bytes_of args w) refl)
+    step-lies Open h = optional-lies (place_named (bytes_of args w)) (place_within (bytes_of args w))
     step-lies (Wants p name) h = valued-lies p
     step-lies Helped h = (record { said = all; stage = tt })
-    step-lies (Wrong t culprit) h = (record { said = all; stage = h })
+    step-lies (Wrong t) h = (record { said = all; stage = h })
 
   -- ---- the options
 
-  instead-lies : (help : Bool) (t : Trouble) (culprit : Word) → Lies args culprit → OptionsLie args (instead help t culprit)
-  instead-lies help t culprit h =
-      record {
-        array = omega arith;
-        history = nowhere-lies;
-        image = nowhere-lies;
-        restore = nowhere-lies;
-        picture = nowhere-lies;
-        snapshot = nowhere-lies;
-        culprit = h;
-      }
+  abbrev pub ResultLies : Result Asked Trouble → Type 0
+  ResultLies r = MatchResult r (AskedLies args) (TroubleLies args)
 
-  refused-lies : (t : Trouble) → OptionsLie args (refused t nowhere)
-  refused-lies t = instead-lies false t nowhere nowhere-lies
+  abbrev RangeAskedLies : Result Range Trouble → Type 0
+  RangeAskedLies r = MatchResult r RangeLies (TroubleLies args)
 
-  module _ (said : List Said) (all : SaidLies args said) where
-    accepted-lies : (r : Range) → RangeLies r → OptionsLie args (accepted args said r)
+  range-lies : (b f t : Option Word) → RangeAskedLies (range_asked args b f t)
+  unfolding range_asked
+  range-lies b f t =
+      either_way RangeAskedLies (is_some b && (is_some f || is_some t)) tt
+      (either_way RangeAskedLies (is_some f && not (is_some t) || is_some t && not (is_some f)) tt
+      (either_way RangeAskedLies (ltb (address_in args t) (address_in args f)) tt
+      (asked-lies (is_some b) (block_in args b) (is_some f) (address_in args f) (address_in args t) (address_below args f) (address_below args t))))
+
+  module _ (said : List (Option Word)) (all : SaidLies args said) where
+    accepted-lies : (history : Word) (r : Range) → Lies args history → RangeLies r → OptionsLie args (accepted args said history r)
     unfolding accepted
-    accepted-lies r h =
+    accepted-lies history r here h =
         record {
           array = h;
-          history = all history_place;
+          history = here;
           image = all image_place;
           restore = all restore_place;
           picture = all picture_place;
           snapshot = all snapshot_place;
-          culprit = nowhere-lies;
         }
 
-    ranged-lies : (b f t : Said) → OptionsLie args (ranged args said b f t)
-    unfolding ranged
-    ranged-lies b f t =
-        either_way (OptionsLie args) (b.given && (f.given || t.given)) (refused-lies BlockAndAddresses)
-        (either_way (OptionsLie args) (f.given && not t.given || t.given && not f.given) (refused-lies HalfARange)
-        (either_way (OptionsLie args) (ltb (address_in args t) (address_in args f)) (refused-lies FromAfterTo)
-        (accepted-lies _
-        (asked-lies b.given (block_in args b) f.given (address_in args f) (address_in args t) (address_below args f) (address_below args t)))))
+    run-lies : (history : Word) (r : Result Range Trouble) → Lies args history → RangeAskedLies r → ResultLies (run_of args said history r)
+    run-lies history (Ok range) here h = accepted-lies history range here h
+    run-lies history (Err t) here h = h
 
-    whole-lies : OptionsLie args (whole args said)
-    unfolding whole
-    whole-lies =
-        either_way (OptionsLie args) (not (said_of said history_place).given) (refused-lies NoHistory)
-        (either_way (OptionsLie args) ((said_of said image_place).given && (said_of said restore_place).given) (refused-lies ImageAndRestore)
-        (ranged-lies (said_of said block_place) (said_of said from_place) (said_of said to_place)))
+    history-lies : (o : Option Word) → GivenLies args o → ResultLies (with_history args said o)
+    history-lies None here = tt
+    history-lies (Some history) here =
+        either_way ResultLies (is_some (said_of said image_place) && is_some (said_of said restore_place)) tt
+        (run-lies history _ here (range-lies (said_of said block_place) (said_of said from_place) (said_of said to_place)))
 
-    pub ended-lies : (stage : Stage) → StageLies args stage → OptionsLie args (ended args said stage)
-    unfolding ended
-    ended-lies Open h = whole-lies
-    ended-lies (Wants p name) h = instead-lies false NothingAfter name h.1
-    ended-lies Helped h = instead-lies true trouble.Nothing nowhere nowhere-lies
-    ended-lies (Wrong t culprit) h = instead-lies false t culprit h
+    pub ended-lies : (stage : Stage) → StageLies args stage → ResultLies (ended args said stage)
+    unfolding ended whole
+    ended-lies Open h = history-lies (said_of said history_place) (all history_place)
+    ended-lies (Wants p name) h = h.1
+    ended-lies Helped h = tt
+    ended-lies (Wrong t) h = h

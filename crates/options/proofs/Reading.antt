@@ -9,19 +9,19 @@ use Rattle.options.specs.Arguments.{word, places, start, step_at, given_by}
 use Rattle.options.specs.Inside.{AllTaken}
 use Rattle.options.specs.declared.Given.{Given}
 use Rattle.options.proofs.Words.{taking, taking-word, taking-on, taking-none}
-use Rattle.options.proofs.Lying.{GivenLies, unsaid-lies, step-lies}
+use Rattle.options.proofs.Lying.{TakenLies, none_lies, step-lies}
 
 -- at a place, in the word that begins at `from`
 pub record Reading (args : List ℕ) (g : Given) (from at : ℕ) : Type 0 where
   pub is : taking args g from at ≡ given_by args
-  pub lies : GivenLies args g
+  pub lies : TakenLies args g
   pub order : from ≤ at
   pub inside : at ≤ length args
 
 module _ (args : List ℕ) where
   pub read_none : Reading args start 0 0
   read_none =
-      record { is = refl; lies = record { said = unsaid-lies args places; stage = tt }; order = omega arith; inside = omega arith }
+      record { is = refl; lies = record { said = none_lies args places; stage = tt }; order = omega arith; inside = omega arith }
 
   pub read_all : {g : Given} {from at : ℕ} → Reading args g from at → length args ≤ at → AllTaken args g
   read_all {g} {from} {at} r h =

@@ -1,40 +1,38 @@
 -- A word of the arguments: its place among some names, its first byte, and the words of what is left at each byte.
 -- Assumes nothing.
-use Prim.Native.Nat.{ℕ, suc, ◌+◌, ◌≤◌, ◌<◌}
+use Prim.Native.Nat.{ℕ, ◌+◌, ◌≤◌, ◌<◌}
 use mathlib.Core.Bool.{Bool, true, false, cond}
 use mathlib.Core.List.{List, [], ◌∷◌}
 use mathlib.Core.Path.{◌≡◌}
 use native.Mathlib.Numerals.{add-one}
 use native.Mathlib.Omega.{arith}
 use borrow.Author.Tests.{eq-eqb, ne_eqb}
-use lib.Dec.{eqb}
 use lib.ListN.{length, get_or, drop, drop_of_length-le}
-use lib.Seq.{drop-cons, slice-cons, slice_empty}
-use Rattle.byte_search.specs.Search.{slice}
-use Rattle.words.specs.Text.{spells, place_of}
-use Rattle.options.specs.Arguments.{word, dashed, words_from, take_all, step_at}
+use lib.Seq.{drop-cons}
+use Rattle.std.specs.Prelude.{Some}
+use Rattle.words.specs.Text.{spells, named}
+use Rattle.options.specs.Arguments.{word, places, names, or_history, place_named, words_from, take_all, step_at}
 use Rattle.options.specs.declared.Given.{Given}
 
-place-bound : (names : List (List ℕ)) (bs : List ℕ) → place_of names bs ≤ length names
-unfolding place_of
-place-bound [] bs = omega arith
-place-bound (n ∷ ns) bs = by_first (spells n bs) (place-bound ns bs)
+Within : List (List ℕ × ℕ) → Type 0
+Within [] = Unit {0}
+Within (e ∷ es) = (e.1 < places) × Within es
+
+named-within : (es : List (List ℕ × ℕ)) (bs : List ℕ) → Within es → or_history (named es bs) < places
+unfolding Within
+named-within [] bs all = omega arith
+named-within (e ∷ es) bs all = by (spells e.0 bs) (named-within es bs all.1)
   where
-    by_first : (t : Bool) → place_of ns bs ≤ length ns → cond t 0 (suc (place_of ns bs)) ≤ suc (length ns)
-    by_first true h = omega arith
-    by_first false h = omega arith
+    by : (t : Bool) → or_history (named es bs) < places → or_history (cond t (Some e.1) (named es bs)) < places
+    by true h = all.0
+    by false h = h
 
-pub place-within : (names : List (List ℕ)) (bs : List ℕ) {k : ℕ} → k ≡ place_of names bs → k < suc (length names)
-place-within names bs e = omega (arith, place-bound names bs)
-
-module _ (args : List ℕ) (from to : ℕ) (inside : to ≤ length args) where
-  pub dash-first : from < to → eqb (get_or args from 0) 45 ≡ dashed (slice from to args)
-  unfolding slice
-  dash-first more = rw (slice-cons from to args 0 more inside)
-
-  pub none_first : from ≤ to → to ≤ from → false ≡ dashed (slice from to args)
-  unfolding slice
-  none_first order over = let same : from ≡ to = omega arith in rw (same, slice_empty to args)
+-- each word has a place
+pub place_within : (bs : List ℕ) → place_named bs < places
+unfolding place_named Within
+place_within bs =
+    named-within names bs
+    (omega arith, (omega arith, (omega arith, (omega arith, (omega arith, (omega arith, (omega arith, (omega arith, (omega arith, (omega arith, (omega arith, (omega arith, tt))))))))))))
 
 -- what the words of what is left at a place add to what is given
 abbrev pub taking : List ℕ → Given → ℕ → ℕ → Given

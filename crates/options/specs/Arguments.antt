@@ -1,19 +1,16 @@
 -- The arguments of the program as a text with a byte 0 after each word, and what is taken from it word by word: each option at most
 -- once, in any order, with the word after it where it wants one, and one word that is no option, the history.
 -- Assumes nothing.
-use Rattle.std.specs.Prelude.{ℕ, suc, Bool, true, false, cond, ◌||◌, List, [], ◌∷◌, eqb, ltb, get_or, set, replicate}
+use Rattle.std.specs.Prelude.{ℕ, suc, Bool, true, false, cond, ◌||◌, List, [], ◌∷◌, Option, Some, None, Result, Ok, Err, eqb, ltb, get_or, set, replicate}
+use Rattle.std.specs.Option.{is_some}
+use Rattle.std.specs.Result.{is_ok}
 use Rattle.byte_search.specs.Search.{slice}
 use Rattle.digits.specs.Digits.{hex_in}
-use Rattle.digits.specs.declared.Number.{Number}
-use Rattle.digits.specs.declared.Number.TheVariants as number
+use Rattle.digits.specs.declared.NoNumber.{NoNumber}
 use Rattle.moments.specs.Moments.{moment_of}
-use Rattle.moments.specs.declared.Before.TheVariants as earlier
-use Rattle.moments.specs.declared.Moment.{Moment}
-use Rattle.moments.specs.declared.Moment.TheVariants as moment
-use Rattle.words.specs.Text.{text, place_of}
+use Rattle.words.specs.Text.{text, named}
 use Rattle.words.specs.declared.Word.{Word}
 use Rattle.options.specs.declared.Given.{Given}
-use Rattle.options.specs.declared.Said.{Said}
 use Rattle.options.specs.declared.Stage.{Stage}
 use Rattle.options.specs.declared.Stage.TheVariants.{Open, Wants, Helped, Wrong}
 use Rattle.options.specs.declared.Trouble.{Trouble}
@@ -80,21 +77,28 @@ history_place = 12
 abbrev pub places : ℕ
 places = 13
 
-abbrev pub names : List (List ℕ)
+abbrev pub names : List (List ℕ × ℕ)
 names =
-    text "--HELP"
-    ∷ text "--EVENTS"
-    ∷ text "--MAP"
-    ∷ text "--GO-ON"
-    ∷ text "--IMAGE"
-    ∷ text "--RESTORE"
-    ∷ text "--PICTURE"
-    ∷ text "--SNAPSHOT"
-    ∷ text "--BLOCK"
-    ∷ text "--FROM"
-    ∷ text "--TO"
-    ∷ text "--AT"
+    (text "--HELP", help_place)
+    ∷ (text "--EVENTS", events_place)
+    ∷ (text "--MAP", map_place)
+    ∷ (text "--GO-ON", go_on_place)
+    ∷ (text "--IMAGE", image_place)
+    ∷ (text "--RESTORE", restore_place)
+    ∷ (text "--PICTURE", picture_place)
+    ∷ (text "--SNAPSHOT", snapshot_place)
+    ∷ (text "--BLOCK", block_place)
+    ∷ (text "--FROM", from_place)
+    ∷ (text "--TO", to_place)
+    ∷ (text "--AT", at_place)
     ∷ []
+
+abbrev pub or_history : Option ℕ → ℕ
+or_history (Some p) = p
+or_history None = history_place
+
+unfoldable pub place_named : List ℕ → ℕ
+place_named bs = or_history (named names bs)
 
 -- whether an option has a word after it
 abbrev pub wants_word : ℕ → Bool
@@ -103,15 +107,13 @@ wants_word p = ltb go_on_place p
 -- ---- the words of options
 
 -- whether a number is below a bound, and this number, 0 where it is not
-abbrev pub is_below : ℕ → Number → Bool
-is_below bound (number.Is n) = ltb n bound
-is_below bound number.TooLarge = false
-is_below bound number.Not = false
+abbrev pub is_below : ℕ → Result ℕ NoNumber → Bool
+is_below bound (Ok n) = ltb n bound
+is_below bound (Err none) = false
 
-abbrev pub value_below : ℕ → Number → ℕ
-value_below bound (number.Is n) = cond (ltb n bound) n 0
-value_below bound number.TooLarge = 0
-value_below bound number.Not = 0
+abbrev pub value_below : ℕ → Result ℕ NoNumber → ℕ
+value_below bound (Ok n) = cond (ltb n bound) n 0
+value_below bound (Err none) = 0
 
 -- a block is one digit below 6, an address four hexadecimal digits below C000
 abbrev pub block_bound : ℕ
@@ -120,45 +122,33 @@ block_bound = 6
 abbrev pub address_bound : ℕ
 address_bound = 0xC000
 
-abbrev pub is_time : Moment → Bool
-is_time (moment.At t) = true
-is_time (moment.Wrong r) = false
-
 -- whether an option can have a word: a file's name may be any
 unfoldable pub fits : ℕ → List ℕ → Bool
 fits p bs =
     cond (eqb p block_place) (is_below block_bound (hex_in 1 bs))
     (cond (eqb p from_place || eqb p to_place) (is_below address_bound (hex_in 4 bs))
-    (cond (eqb p at_place) (is_time (moment_of earlier.Nothing bs)) true))
+    (cond (eqb p at_place) (is_ok (moment_of None bs)) true))
 
 -- what is wrong where it can't
-abbrev pub complaint : ℕ → Trouble
-complaint p = cond (eqb p block_place) NoBlock (cond (eqb p at_place) NoTime NoAddress)
+abbrev pub complaint : ℕ → Word → Trouble
+complaint p w = cond (eqb p block_place) (NoBlock w) (cond (eqb p at_place) (NoTime w) (NoAddress w))
 
 -- ---- what is given, word by word
 
--- no word
-abbrev pub nowhere : Word
-nowhere = word 0 0
-
--- what is said of a place of which nothing is said
-abbrev pub unsaid : Said
-unsaid = record { given = false; word = nowhere }
-
--- what is said of a place
-abbrev pub said_of : List Said → ℕ → Said
-said_of said p = get_or said p unsaid
+-- what is said of a place, if it is given
+abbrev pub said_of : List (Option Word) → ℕ → Option Word
+said_of said p = get_or said p None
 
 -- nothing is given yet
 abbrev pub start : Given
-start = record { said = replicate places unsaid; stage = Open }
+start = record { said = replicate places None; stage = Open }
 
 -- a place is given by a word
-abbrev pub taken : List Said → ℕ → Word → Given
-taken said p w = record { said = set said p (record { given = true; word = w }); stage = Open }
+abbrev pub taken : List (Option Word) → ℕ → Word → Given
+taken said p w = record { said = set said p (Some w); stage = Open }
 
 -- the reading has come to a stage, and nothing more is given
-abbrev pub reached : List Said → Stage → Given
+abbrev pub reached : List (Option Word) → Stage → Given
 reached said stage = record { said = said; stage = stage }
 
 -- whether a word begins with a '-'
@@ -167,32 +157,32 @@ dashed [] = false
 dashed (b ∷ bs) = eqb b 45
 
 -- a word that is no option's name
-unfoldable pub plain : List ℕ → List Said → Word → Given
+unfoldable pub plain : List ℕ → List (Option Word) → Word → Given
 plain args said w =
-    cond (dashed (bytes_of args w)) (reached said (Wrong NoSuchOption w))
-    (cond (said_of said history_place).given (reached said (Wrong TwoHistories w)) (taken said history_place w))
+    cond (dashed (bytes_of args w)) (reached said (Wrong (NoSuchOption w)))
+    (cond (is_some (said_of said history_place)) (reached said (Wrong (TwoHistories w))) (taken said history_place w))
 
 -- an option's name
-unfoldable pub option : List Said → ℕ → Word → Given
+unfoldable pub option : List (Option Word) → ℕ → Word → Given
 option said p w =
-    cond (said_of said p).given (reached said (Wrong Twice w))
+    cond (is_some (said_of said p)) (reached said (Wrong (Twice w)))
     (cond (wants_word p) (reached said (Wants p w)) (taken said p w))
 
 -- a word where an option or the history is due, by its place among the names
-unfoldable pub named : List ℕ → List Said → ℕ → Word → Given
-named args said p w =
+unfoldable pub optional : List ℕ → List (Option Word) → ℕ → Word → Given
+optional args said p w =
     cond (eqb p help_place) (reached said Helped) (cond (eqb p history_place) (plain args said w) (option said p w))
 
 -- a word after an option
-unfoldable pub valued : List ℕ → List Said → ℕ → Word → Given
-valued args said p w = cond (fits p (bytes_of args w)) (taken said p w) (reached said (Wrong (complaint p) w))
+unfoldable pub valued : List ℕ → List (Option Word) → ℕ → Word → Given
+valued args said p w = cond (fits p (bytes_of args w)) (taken said p w) (reached said (Wrong (complaint p w)))
 
 -- the next word: after `--help`, and after the first trouble, no word is looked at
-unfoldable pub step_at : List ℕ → List Said → Stage → Word → Given
-step_at args said Open w = named args said (place_of names (bytes_of args w)) w
+unfoldable pub step_at : List ℕ → List (Option Word) → Stage → Word → Given
+step_at args said Open w = optional args said (place_named (bytes_of args w)) w
 step_at args said (Wants p name) w = valued args said p w
 step_at args said Helped w = reached said Helped
-step_at args said (Wrong t culprit) w = reached said (Wrong t culprit)
+step_at args said (Wrong t) w = reached said (Wrong t)
 
 -- one word after the other
 unfoldable pub take_all : List ℕ → Given → List Word → Given

@@ -1,112 +1,94 @@
 -- The options that arguments give, or the first trouble with them: first what is wrong with one word, from left to right, then what is
 -- wrong with all of them together.
 -- Assumes nothing.
-use Rattle.std.specs.Prelude.{ℕ, Bool, true, false, cond, not, ◌&&◌, ◌||◌, List, ltb}
+use Rattle.std.specs.Prelude.{ℕ, Bool, cond, not, ◌&&◌, ◌||◌, List, Option, Some, None, Result, Ok, Err, ltb}
+use Rattle.std.specs.Option.{is_some}
+use Rattle.std.specs.Result.{result_ok}
+use Rattle.time.specs.declared.Time.{Time}
 use Rattle.cell.specs.Cell.{pages}
 use Rattle.control.specs.declared.Range.{Range}
 use Rattle.digits.specs.Digits.{hex_in}
 use Rattle.moments.specs.Moments.{moment_of}
-use Rattle.moments.specs.declared.Before.{Before}
-use Rattle.moments.specs.declared.Before.TheVariants as earlier
-use Rattle.moments.specs.declared.Moment.{Moment}
-use Rattle.moments.specs.declared.Moment.TheVariants as moment
 use Rattle.verdict.specs.Blocks.{block_range, pages_touched}
 use Rattle.words.specs.declared.Word.{Word}
-use Rattle.options.specs.Arguments.{bytes_of, events_place, map_place, go_on_place, image_place, restore_place, picture_place, snapshot_place, block_place, from_place, to_place, at_place, history_place, value_below, block_bound, address_bound, nowhere, said_of, given_by}
+use Rattle.options.specs.Arguments.{bytes_of, events_place, map_place, go_on_place, image_place, restore_place, picture_place, snapshot_place, block_place, from_place, to_place, at_place, history_place, value_below, block_bound, address_bound, said_of, given_by}
+use Rattle.options.specs.declared.Asked.{Asked}
+use Rattle.options.specs.declared.Asked.TheVariants.{Help, Run}
 use Rattle.options.specs.declared.Options.{Options}
-use Rattle.options.specs.declared.Said.{Said}
 use Rattle.options.specs.declared.Stage.{Stage}
 use Rattle.options.specs.declared.Stage.TheVariants.{Open, Wants, Helped, Wrong}
 use Rattle.options.specs.declared.Trouble.{Trouble}
 use Rattle.options.specs.declared.Trouble.TheVariants.{NothingAfter, NoHistory, ImageAndRestore, BlockAndAddresses, HalfARange, FromAfterTo}
-use Rattle.options.specs.declared.Trouble.TheVariants as trouble
 
 -- the whole array
 abbrev pub everything : Range
 everything = record { first = 0; pages = pages }
 
--- no option but what is asked in place of a run: the help, or a trouble with the word it lies in
-abbrev pub instead : Bool → Trouble → Word → Options
-instead help trouble culprit =
-    record {
-      history = nowhere;
-      image = nowhere;
-      restore = nowhere;
-      picture = nowhere;
-      snapshot = nowhere;
-      events = false;
-      map = false;
-      go_on = false;
-      help = help;
-      at = earlier.Nothing;
-      first = everything.first;
-      pages = everything.pages;
-      trouble = trouble;
-      culprit = culprit;
-    }
+-- what is given for a block and for an address, 0 where none is
+abbrev pub block_in : List ℕ → Option Word → ℕ
+block_in args (Some w) = value_below block_bound (hex_in 1 (bytes_of args w))
+block_in args None = 0
 
-abbrev pub refused : Trouble → Word → Options
-refused t culprit = instead false t culprit
+abbrev pub address_in : List ℕ → Option Word → ℕ
+address_in args (Some w) = value_below address_bound (hex_in 4 (bytes_of args w))
+address_in args None = 0
 
--- a time that a word stands for, if it does
-abbrev pub time_in : Moment → Before
-time_in (moment.At t) = earlier.At t
-time_in (moment.Wrong r) = earlier.Nothing
-
--- what is given for a block and for an address; the word of an option that is not given is empty
-abbrev pub block_in : List ℕ → Said → ℕ
-block_in args s = value_below block_bound (hex_in 1 (bytes_of args s.word))
-
-abbrev pub address_in : List ℕ → Said → ℕ
-address_in args s = value_below address_bound (hex_in 4 (bytes_of args s.word))
+-- a time that is given
+abbrev pub time_in : List ℕ → Option Word → Option Time
+time_in args (Some w) = result_ok (moment_of None (bytes_of args w))
+time_in args None = None
 
 -- the pages that the verdict is about: those of a block, those in which a range of addresses lies, or all
 unfoldable pub pages_asked : Bool → ℕ → Bool → ℕ → ℕ → Range
 pages_asked blocked block addressed from to =
     cond blocked (block_range block) (cond addressed (pages_touched from to) everything)
 
+-- the range that is asked for, by a block or by addresses
+unfoldable pub range_asked : List ℕ → Option Word → Option Word → Option Word → Result Range Trouble
+range_asked args block from to =
+    cond (is_some block && (is_some from || is_some to)) (Err BlockAndAddresses)
+    (cond (is_some from && not (is_some to) || is_some to && not (is_some from)) (Err HalfARange)
+    (cond (ltb (address_in args to) (address_in args from)) (Err FromAfterTo)
+    (Ok (pages_asked (is_some block) (block_in args block) (is_some from) (address_in args from) (address_in args to)))))
+
 -- the options where nothing is wrong
-unfoldable pub accepted : List ℕ → List Said → Range → Options
-accepted args said range =
+unfoldable pub accepted : List ℕ → List (Option Word) → Word → Range → Options
+accepted args said history range =
     record {
-      history = (said_of said history_place).word;
-      image = (said_of said image_place).word;
-      restore = (said_of said restore_place).word;
-      picture = (said_of said picture_place).word;
-      snapshot = (said_of said snapshot_place).word;
-      events = (said_of said events_place).given;
-      map = (said_of said map_place).given;
-      go_on = (said_of said go_on_place).given;
-      help = false;
-      at = time_in (moment_of earlier.Nothing (bytes_of args (said_of said at_place).word));
+      history = history;
+      image = said_of said image_place;
+      restore = said_of said restore_place;
+      picture = said_of said picture_place;
+      snapshot = said_of said snapshot_place;
+      events = is_some (said_of said events_place);
+      map = is_some (said_of said map_place);
+      go_on = is_some (said_of said go_on_place);
+      at = time_in args (said_of said at_place);
       first = range.first;
       pages = range.pages;
-      trouble = trouble.Nothing;
-      culprit = nowhere;
     }
 
--- the range that is asked for, by a block or by addresses
-unfoldable pub ranged : List ℕ → List Said → Said → Said → Said → Options
-ranged args said block from to =
-    cond (block.given && (from.given || to.given)) (refused BlockAndAddresses nowhere)
-    (cond (from.given && not to.given || to.given && not from.given) (refused HalfARange nowhere)
-    (cond (ltb (address_in args to) (address_in args from)) (refused FromAfterTo nowhere)
-    (accepted args said (pages_asked block.given (block_in args block) from.given (address_in args from) (address_in args to)))))
+abbrev pub run_of : List ℕ → List (Option Word) → Word → Result Range Trouble → Result Asked Trouble
+run_of args said history (Ok range) = Ok (Run (accepted args said history range))
+run_of args said history (Err t) = Err t
 
--- all words together
-unfoldable pub whole : List ℕ → List Said → Options
-whole args said =
-    cond (not (said_of said history_place).given) (refused NoHistory nowhere)
-    (cond ((said_of said image_place).given && (said_of said restore_place).given) (refused ImageAndRestore nowhere)
-    (ranged args said (said_of said block_place) (said_of said from_place) (said_of said to_place)))
+-- all words together, of which one has to be the history
+abbrev pub with_history : List ℕ → List (Option Word) → Option Word → Result Asked Trouble
+with_history args said None = Err NoHistory
+with_history args said (Some history) =
+    cond (is_some (said_of said image_place) && is_some (said_of said restore_place)) (Err ImageAndRestore)
+    (run_of args said history (range_asked args (said_of said block_place) (said_of said from_place) (said_of said to_place)))
+
+unfoldable pub whole : List ℕ → List (Option Word) → Result Asked Trouble
+whole args said = with_history args said (said_of said history_place)
 
 -- how the reading has ended
-unfoldable pub ended : List ℕ → List Said → Stage → Options
+unfoldable pub ended : List ℕ → List (Option Word) → Stage → Result Asked Trouble
 ended args said Open = whole args said
-ended args said (Wants p name) = refused NothingAfter name
-ended args said Helped = instead true trouble.Nothing nowhere
-ended args said (Wrong t culprit) = refused t culprit
+ended args said (Wants p name) = Err (NothingAfter name)
+ended args said Helped = Ok Help
+ended args said (Wrong t) = Err t
 
--- the options that arguments give
-unfoldable pub options_of : List ℕ → Options
+-- what the arguments ask for
+unfoldable pub options_of : List ℕ → Result Asked Trouble
 options_of args = ended args (given_by args).said (given_by args).stage

@@ -1,54 +1,23 @@
 // What is made of the words that are taken.
 ghost use Rattle.std.specs.Prelude.{◌≡◌, ◌≤◌, ◌<◌};
-ghost use Rattle.moments.specs.Moments.{moment_of};
-ghost use Rattle.options.specs.Arguments.{bytes_of, nowhere, places, said_of, block_bound, address_bound};
-ghost use Rattle.options.specs.Inside.{Lies, SaidLies};
-ghost use Rattle.options.specs.Options.{instead, refused, time_in, pages_asked, accepted, ranged, whole, ended};
+ghost use Rattle.options.specs.Arguments.{block_bound, address_bound};
+ghost use Rattle.options.specs.Inside.{SaidLies, GivenLies};
+ghost use Rattle.options.specs.Options.{pages_asked, range_asked, accepted, whole, ended};
 
 use crate::places::{
     AT, BLOCK, EVENTS, FROM, GO_ON, HISTORY, IMAGE, MAP, PICTURE, RESTORE, SNAPSHOT, TO, is_given,
     said_of,
 };
 use crate::values::{address_in, block_in, time_in};
-use crate::{Options, Said, Stage, Trouble};
-use cell::PAGES;
+use crate::{Asked, Options, Stage, Trouble};
 use control::Range;
-use moments::{Before, moment_in};
 use verdict::blocks::{block_range, pages_touched};
 use words::Word;
 
 // The pages of the array, as a range counts them.
 const ALL: u16 = 384;
 
-fn instead(help: bool, trouble: Trouble, culprit: Word) -> Options
-    ensures { result ≡ instead help trouble culprit }
-{
-    let nowhere = Word { from: 0, to: 0 };
-    Options {
-        history: nowhere,
-        image: nowhere,
-        restore: nowhere,
-        picture: nowhere,
-        snapshot: nowhere,
-        events: false,
-        map: false,
-        go_on: false,
-        help,
-        at: Before::Nothing,
-        first: 0,
-        pages: PAGES,
-        trouble,
-        culprit,
-    }
-}
-
-// A trouble with all words together, which lies in none of them.
-fn refused(trouble: Trouble) -> Options
-    ensures { result ≡ refused trouble nowhere }
-{
-    instead(false, trouble, Word { from: 0, to: 0 })
-}
-
+#[tactic(auto, unfolding(crate::specs::Options::pages_asked))]
 fn pages_asked(blocked: bool, block: u64, addressed: bool, from: u64, to: u64) -> Range
     requires { (block < block_bound) × (from ≤ to) × (to < address_bound) }
     ensures { result ≡ pages_asked blocked block addressed from to }
@@ -65,93 +34,80 @@ fn pages_asked(blocked: bool, block: u64, addressed: bool, from: u64, to: u64) -
     }
 }
 
-fn word_of(said: [Said; 13], p: usize) -> Word
-    requires { p < places }
-    ensures { result ≡ (said_of said p).word }
+// The range that is asked for, by a block or by addresses.
+#[tactic(auto, using(crate::proofs::Lying::bounds), unfolding(crate::specs::Options::range_asked))]
+fn range_asked(
+    args: &[u8],
+    block: Option<Word>,
+    from: Option<Word>,
+    to: Option<Word>,
+) -> Result<Range, Trouble>
+    requires { GivenLies args.now block × GivenLies args.now from × GivenLies args.now to }
+    ensures { result ≡ range_asked args.now block from to }
 {
-    let found = said_of(said, p);
-    let word = found.word;
-    word
-}
-
-fn time_asked(args: &[u8], word: Word) -> Before
-    requires { Lies args.now word }
-    ensures { result ≡ time_in (moment_of Before.Nothing (bytes_of args.now word)) }
-{
-    let from = word.from;
-    let to = word.to;
-    time_in(moment_in(args, from, to, Before::Nothing))
-}
-
-fn accepted(args: &[u8], said: [Said; 13], range: Range) -> Options
-    requires { SaidLies args.now said }
-    ensures { result ≡ accepted args.now said range }
-{
-    Options {
-        history: word_of(said, HISTORY),
-        image: word_of(said, IMAGE),
-        restore: word_of(said, RESTORE),
-        picture: word_of(said, PICTURE),
-        snapshot: word_of(said, SNAPSHOT),
-        events: is_given(said, EVENTS),
-        map: is_given(said, MAP),
-        go_on: is_given(said, GO_ON),
-        help: false,
-        at: time_asked(args, word_of(said, AT)),
-        first: range.first as usize,
-        pages: range.pages as usize,
-        trouble: Trouble::Nothing,
-        culprit: Word { from: 0, to: 0 },
-    }
-}
-
-fn ranged(args: &[u8], said: [Said; 13], block: Said, from: Said, to: Said) -> Options
-    requires { SaidLies args.now said × Lies args.now block.word × Lies args.now from.word × Lies args.now to.word }
-    ensures { result ≡ ranged args.now said block from to }
-{
-    let by_block = block.given;
-    let by_from = from.given;
-    let by_to = to.given;
+    let by_block = block.is_some();
+    let by_from = from.is_some();
+    let by_to = to.is_some();
     if by_block & (by_from | by_to) {
-        return refused(Trouble::BlockAndAddresses);
+        return Err(Trouble::BlockAndAddresses);
     }
     if (by_from & !by_to) | (by_to & !by_from) {
-        return refused(Trouble::HalfARange);
+        return Err(Trouble::HalfARange);
     }
     let first = address_in(args, from);
     let last = address_in(args, to);
     if last < first {
-        return refused(Trouble::FromAfterTo);
+        return Err(Trouble::FromAfterTo);
     }
-    let range = pages_asked(by_block, block_in(args, block), by_from, first, last);
-    accepted(args, said, range)
+    Ok(pages_asked(by_block, block_in(args, block), by_from, first, last))
 }
 
-fn whole(args: &[u8], said: [Said; 13]) -> Options
+#[tactic(auto, unfolding(crate::specs::Options::accepted))]
+fn accepted(args: &[u8], said: [Option<Word>; 13], history: Word, range: Range) -> Options
+    requires { SaidLies args.now said }
+    ensures { result ≡ accepted args.now said history range }
+{
+    Options {
+        history,
+        image: said_of(said, IMAGE),
+        restore: said_of(said, RESTORE),
+        picture: said_of(said, PICTURE),
+        snapshot: said_of(said, SNAPSHOT),
+        events: is_given(said, EVENTS),
+        map: is_given(said, MAP),
+        go_on: is_given(said, GO_ON),
+        at: time_in(args, said_of(said, AT)),
+        first: range.first as usize,
+        pages: range.pages as usize,
+    }
+}
+
+#[tactic(auto, unfolding(crate::specs::Options::whole))]
+fn whole(args: &[u8], said: [Option<Word>; 13]) -> Result<Asked, Trouble>
     requires { SaidLies args.now said }
     ensures { result ≡ whole args.now said }
 {
-    if !is_given(said, HISTORY) {
-        return refused(Trouble::NoHistory);
-    }
+    let history = said_of(said, HISTORY).ok_or(Trouble::NoHistory)?;
     if is_given(said, IMAGE) & is_given(said, RESTORE) {
-        return refused(Trouble::ImageAndRestore);
+        return Err(Trouble::ImageAndRestore);
     }
     let block = said_of(said, BLOCK);
     let from = said_of(said, FROM);
     let to = said_of(said, TO);
-    ranged(args, said, block, from, to)
+    let range = range_asked(args, block, from, to)?;
+    Ok(Asked::Run(accepted(args, said, history, range)))
 }
 
 // What is said at the end of the words, by the stage that the last of them leads to.
-pub fn ended(args: &[u8], said: [Said; 13], stage: Stage) -> Options
+#[tactic(auto, unfolding(crate::specs::Options::ended))]
+pub fn ended(args: &[u8], said: [Option<Word>; 13], stage: Stage) -> Result<Asked, Trouble>
     requires { SaidLies args.now said }
     ensures { result ≡ ended args.now said stage }
 {
     match stage {
         Stage::Open => whole(args, said),
-        Stage::Wants(place, name) => instead(false, Trouble::NothingAfter, name),
-        Stage::Helped => instead(true, Trouble::Nothing, Word { from: 0, to: 0 }),
-        Stage::Wrong(trouble, culprit) => instead(false, trouble, culprit),
+        Stage::Wants(_, name) => Err(Trouble::NothingAfter(name)),
+        Stage::Helped => Ok(Asked::Help),
+        Stage::Wrong(trouble) => Err(trouble),
     }
 }

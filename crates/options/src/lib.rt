@@ -3,7 +3,7 @@
 
 ghost use Rattle.options.specs.Inside.{Answer};
 
-use moments::Before;
+use time::Time;
 use words::Word;
 
 mod ending;
@@ -11,53 +11,49 @@ mod places;
 mod taking;
 mod values;
 
-// What the program is asked for. A word that is empty is not given; where there is a trouble, or the help is asked for, nothing else is said.
+// What the program is asked for.
+#[derive(Clone, Copy)]
+pub enum Asked {
+    Help,
+    Run(Options),
+}
+
+// What a run is asked for.
 #[derive(Clone, Copy)]
 pub struct Options {
     pub history: Word,
-    pub image: Word,
-    pub restore: Word,
-    pub picture: Word,
-    pub snapshot: Word,
+    pub image: Option<Word>,
+    pub restore: Option<Word>,
+    pub picture: Option<Word>,
+    pub snapshot: Option<Word>,
     pub events: bool,
     pub map: bool,
     pub go_on: bool,
-    pub help: bool,
     // The time of the verdict.
-    pub at: Before,
+    pub at: Option<Time>,
     // The pages that the verdict is about.
     pub first: usize,
     pub pages: usize,
-    pub trouble: Trouble,
-    pub culprit: Word,
 }
 
-// What is wrong with the arguments.
-#[derive(Clone, Copy)]
+// What is wrong with the arguments, with the word that it lies in where that is one.
+#[derive(Clone, Copy, Debug, PartialEq, Eq)]
 pub enum Trouble {
-    Nothing,
-    NoSuchOption,
+    NoSuchOption(Word),
     // An option that wants a word after it is the last.
-    NothingAfter,
-    NoBlock,
-    NoAddress,
-    NoTime,
+    NothingAfter(Word),
+    NoBlock(Word),
+    NoAddress(Word),
+    NoTime(Word),
     NoHistory,
-    TwoHistories,
+    TwoHistories(Word),
     ImageAndRestore,
     BlockAndAddresses,
     // One of --from and --to without the other.
     HalfARange,
     FromAfterTo,
     // An option that is given before.
-    Twice,
-}
-
-// Whether an option or the history is given, and its word.
-#[derive(Clone, Copy)]
-pub struct Said {
-    pub given: bool,
-    pub word: Word,
+    Twice(Word),
 }
 
 // What the next word is.
@@ -69,23 +65,21 @@ pub enum Stage {
     Wants(usize, Word),
     // No matter, since the help is asked for.
     Helped,
-    // No matter, since something is wrong with this word.
-    Wrong(Trouble, Word),
+    // No matter, since something is wrong.
+    Wrong(Trouble),
 }
 
-// What the words up to a place give.
+// What the words up to a place give: the word of each place that is given, and the stage.
 #[derive(Clone, Copy)]
 pub struct Given {
-    pub said: [Said; 13],
+    pub said: [Option<Word>; 13],
     pub stage: Stage,
 }
 
 // What the arguments ask for. They come one after the other, with a byte 0 after each.
-pub fn options_of(args: &[u8]) -> Options
+pub fn options_of(args: &[u8]) -> Result<Asked, Trouble>
     ensures { Answer args.now result }
 {
     let given = taking::all_words(args);
-    let said = given.said;
-    let stage = given.stage;
-    ending::ended(args, said, stage)
+    ending::ended(args, given.said, given.stage)
 }

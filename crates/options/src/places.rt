@@ -1,9 +1,10 @@
 // The places of the options among their names: first the help, then those with no word after them, then those with one. The history has
 // the place after the last.
 ghost use Rattle.std.specs.Prelude.{◌≡◌, ◌<◌};
+ghost use Rattle.std.specs.Option.{is_some};
 ghost use Rattle.options.specs.Arguments.{places, said_of};
 
-use crate::Said;
+use words::Word;
 
 pub const HELP: usize = 0;
 
@@ -31,17 +32,17 @@ pub const AT: usize = 11;
 
 pub const HISTORY: usize = 12;
 
-// What is said of a place.
-pub fn said_of(said: [Said; 13], p: usize) -> Said
+// The word of a place, if it is given.
+pub fn said_of(said: [Option<Word>; 13], p: usize) -> Option<Word>
     requires { p < places }
     ensures { result ≡ said_of said p }
 {
     said[p]
 }
 
-pub fn is_given(said: [Said; 13], p: usize) -> bool
+pub fn is_given(said: [Option<Word>; 13], p: usize) -> bool
     requires { p < places }
-    ensures { result ≡ (said_of said p).given }
+    ensures { result ≡ is_some (said_of said p) }
 {
-    said_of(said, p).given
+    said_of(said, p).is_some()
 }

@@ -1,80 +1,89 @@
 // What is taken from the arguments, word by word.
 ghost use Rattle.std.specs.Prelude.{◌≡◌, ◌<◌};
-ghost use Rattle.words.specs.Text.{place_of};
-ghost use Rattle.options.specs.Arguments.{bytes_of, names, places, taken, dashed, plain, option, named, valued, step_at};
+ghost use Rattle.options.specs.Arguments.{bytes_of, places, place_named, taken, dashed, plain, option, optional, valued, step_at};
 ghost use Rattle.options.specs.Inside.{Lies, StageLies, AllTaken};
 
-use crate::places::{GO_ON, HELP, HISTORY, is_given};
+use crate::places::{
+    AT, BLOCK, EVENTS, FROM, GO_ON, HELP, HISTORY, IMAGE, MAP, PICTURE, RESTORE, SNAPSHOT, TO,
+    is_given,
+};
 use crate::values::{complaint, fits};
-use crate::{Given, Said, Stage, Trouble};
+use crate::{Given, Stage, Trouble};
 use words::Word;
-use words::spelling::place;
+use words::spelling::named;
 
-fn place_in(args: &[u8], word: Word) -> usize
-    requires { Lies args.now word }
-    ensures { (result ≡ place_of names (bytes_of args.now word)) × (result < places) }
+// The place of an option by its name, and the history's for any other word.
+#[tactic(auto, unfolding(crate::specs::Arguments::place_named))]
+fn place_named(word: &[u8]) -> usize
+    ensures { result ≡ place_named word.now }
 {
-    let from = word.from;
-    let to = word.to;
-    place(
-        args,
-        from,
-        to,
-        b"--HELP --EVENTS --MAP --GO-ON --IMAGE --RESTORE --PICTURE --SNAPSHOT --BLOCK --FROM --TO --AT",
-    )
-}
-
-fn dashed(args: &[u8], word: Word) -> bool
-    requires { Lies args.now word }
-    ensures { result ≡ dashed (bytes_of args.now word) }
-{
-    let from = word.from;
-    if from < word.to {
-        return args[from] == b'-';
+    let names = [
+        ("--HELP", HELP),
+        ("--EVENTS", EVENTS),
+        ("--MAP", MAP),
+        ("--GO-ON", GO_ON),
+        ("--IMAGE", IMAGE),
+        ("--RESTORE", RESTORE),
+        ("--PICTURE", PICTURE),
+        ("--SNAPSHOT", SNAPSHOT),
+        ("--BLOCK", BLOCK),
+        ("--FROM", FROM),
+        ("--TO", TO),
+        ("--AT", AT),
+    ];
+    match named(word, &names) {
+        Some(place) => place,
+        None => HISTORY,
     }
-    false
 }
 
-fn taken(said: [Said; 13], p: usize, word: Word) -> Given
+fn dashed(word: &[u8]) -> bool
+    ensures { result ≡ dashed word.now }
+{
+    word.first() == Some(&b'-')
+}
+
+fn taken(said: [Option<Word>; 13], p: usize, word: Word) -> Given
     requires { p < places }
     ensures { result ≡ taken said p word }
 {
     let mut all = said;
-    all[p] = Said { given: true, word };
+    all[p] = Some(word);
     Given {
         said: all,
         stage: Stage::Open,
     }
 }
 
-fn plain(args: &[u8], said: [Said; 13], word: Word) -> Given
+#[tactic(auto, unfolding(crate::specs::Arguments::plain))]
+fn plain(args: &[u8], said: [Option<Word>; 13], word: Word) -> Given
     requires { Lies args.now word }
     ensures { result ≡ plain args.now said word }
 {
-    if dashed(args, word) {
+    if dashed(word.text(args)) {
         return Given {
             said,
-            stage: Stage::Wrong(Trouble::NoSuchOption, word),
+            stage: Stage::Wrong(Trouble::NoSuchOption(word)),
         };
     }
     if is_given(said, HISTORY) {
         return Given {
             said,
-            stage: Stage::Wrong(Trouble::TwoHistories, word),
+            stage: Stage::Wrong(Trouble::TwoHistories(word)),
         };
     }
     taken(said, HISTORY, word)
 }
 
 #[tactic(auto, unfolding(crate::specs::Arguments::option))]
-fn option(said: [Said; 13], p: usize, word: Word) -> Given
+fn option(said: [Option<Word>; 13], p: usize, word: Word) -> Given
     requires { p < places }
     ensures { result ≡ option said p word }
 {
     if is_given(said, p) {
         return Given {
             said,
-            stage: Stage::Wrong(Trouble::Twice, word),
+            stage: Stage::Wrong(Trouble::Twice(word)),
         };
     }
     if GO_ON < p {
@@ -86,9 +95,10 @@ fn option(said: [Said; 13], p: usize, word: Word) -> Given
     taken(said, p, word)
 }
 
-fn named(args: &[u8], said: [Said; 13], p: usize, word: Word) -> Given
+#[tactic(auto, unfolding(crate::specs::Arguments::optional))]
+fn optional(args: &[u8], said: [Option<Word>; 13], p: usize, word: Word) -> Given
     requires { Lies args.now word × (p < places) }
-    ensures { result ≡ named args.now said p word }
+    ensures { result ≡ optional args.now said p word }
 {
     if p == HELP {
         return Given {
@@ -102,7 +112,8 @@ fn named(args: &[u8], said: [Said; 13], p: usize, word: Word) -> Given
     option(said, p, word)
 }
 
-fn valued(args: &[u8], said: [Said; 13], p: usize, word: Word) -> Given
+#[tactic(auto, unfolding(crate::specs::Arguments::valued))]
+fn valued(args: &[u8], said: [Option<Word>; 13], p: usize, word: Word) -> Given
     requires { Lies args.now word × (p < places) }
     ensures { result ≡ valued args.now said p word }
 {
@@ -111,19 +122,19 @@ fn valued(args: &[u8], said: [Said; 13], p: usize, word: Word) -> Given
     }
     Given {
         said,
-        stage: Stage::Wrong(complaint(p), word),
+        stage: Stage::Wrong(complaint(p, word)),
     }
 }
 
-fn step_at(args: &[u8], said: [Said; 13], stage: Stage, word: Word) -> Given
+#[tactic(auto, using(crate::proofs::Words::place_within), unfolding(crate::specs::Arguments::step_at))]
+fn step_at(args: &[u8], said: [Option<Word>; 13], stage: Stage, word: Word) -> Given
     requires { Lies args.now word × StageLies args.now stage }
     ensures { result ≡ step_at args.now said stage word }
 {
     match stage {
-        Stage::Open => named(args, said, place_in(args, word), word),
-        Stage::Wants(p, name) => valued(args, said, p, word),
-        Stage::Helped => Given { said, stage },
-        Stage::Wrong(trouble, culprit) => Given { said, stage },
+        Stage::Open => optional(args, said, place_named(word.text(args)), word),
+        Stage::Wants(p, _) => valued(args, said, p, word),
+        Stage::Helped | Stage::Wrong(_) => Given { said, stage },
     }
 }
 
@@ -131,24 +142,16 @@ fn step_at(args: &[u8], said: [Said; 13], stage: Stage, word: Word) -> Given
 pub fn all_words(args: &[u8]) -> Given
     ensures { AllTaken args.now result }
 {
-    let unsaid = Said {
-        given: false,
-        word: Word { from: 0, to: 0 },
-    };
     let mut given = Given {
-        said: [unsaid; 13],
+        said: [None; 13],
         stage: Stage::Open,
     };
     let mut from: usize = 0;
-    let mut at: usize = 0;
-    while at < args.len() {
+    for at in 0..args.len() {
         if args[at] == 0 {
-            let said = given.said;
-            let stage = given.stage;
-            given = step_at(args, said, stage, Word { from, to: at });
+            given = step_at(args, given.said, given.stage, Word { from, to: at });
             from = at + 1;
         }
-        at += 1;
     }
     given
 }

@@ -1,110 +1,102 @@
 // The words of options: which words an option can have, and what they stand for.
 ghost use Rattle.std.specs.Prelude.{◌≡◌};
-ghost use Rattle.options.specs.Arguments.{bytes_of, is_below, value_below, is_time, fits, complaint};
-ghost use Rattle.options.specs.Inside.{Lies};
+ghost use Rattle.options.specs.Arguments.{bytes_of, is_below, value_below, fits, complaint};
+ghost use Rattle.options.specs.Inside.{Lies, GivenLies};
 ghost use Rattle.options.specs.Options.{time_in, block_in, address_in};
 
+use crate::Trouble;
 use crate::places::{AT, BLOCK, FROM, TO};
-use crate::{Said, Trouble};
-use digits::{Number, hexadecimal};
-use moments::{Before, Moment, moment_in};
+use digits::{NoNumber, hexadecimal};
+use moments::moment_in;
+use time::Time;
 use words::Word;
 
 const BLOCK_BOUND: u64 = 6;
 
 const ADDRESS_BOUND: u64 = 49152;
 
-fn is_below(bound: u64, n: Number) -> bool
+fn is_below(bound: u64, n: Result<u64, NoNumber>) -> bool
     ensures { result ≡ is_below bound n }
 {
     match n {
-        Number::Is(v) => v < bound,
-        Number::TooLarge => false,
-        Number::Not => false,
+        Ok(v) => v < bound,
+        Err(_) => false,
     }
 }
 
-fn value_below(bound: u64, n: Number) -> u64
+// A number below a bound. Each word that is taken is one, and 0 stands for any other.
+fn value_below(bound: u64, n: Result<u64, NoNumber>) -> u64
     ensures { result ≡ value_below bound n }
 {
     match n {
-        Number::Is(v) => {
+        Ok(v) => {
             if v < bound {
                 return v;
             }
             0
         }
-        Number::TooLarge => 0,
-        Number::Not => 0,
-    }
-}
-
-fn is_time(m: Moment) -> bool
-    ensures { result ≡ is_time m }
-{
-    match m {
-        Moment::At(t) => true,
-        Moment::Wrong(why) => false,
-    }
-}
-
-pub fn time_in(m: Moment) -> Before
-    ensures { result ≡ time_in m }
-{
-    match m {
-        Moment::At(t) => Before::At(t),
-        Moment::Wrong(why) => Before::Nothing,
+        Err(_) => 0,
     }
 }
 
 // Whether the option at a place can have a word.
+#[tactic(auto, unfolding(crate::specs::Arguments::fits))]
 pub fn fits(args: &[u8], p: usize, word: Word) -> bool
     requires { Lies args.now word }
     ensures { result ≡ fits p (bytes_of args.now word) }
 {
-    let from = word.from;
-    let to = word.to;
+    let text = word.text(args);
     if p == BLOCK {
-        return is_below(BLOCK_BOUND, hexadecimal(args, from, to, 1));
+        return is_below(BLOCK_BOUND, hexadecimal(text, 1));
     }
-    if (p == FROM) | (p == TO) {
-        return is_below(ADDRESS_BOUND, hexadecimal(args, from, to, 4));
+    if p == FROM || p == TO {
+        return is_below(ADDRESS_BOUND, hexadecimal(text, 4));
     }
     if p == AT {
-        return is_time(moment_in(args, from, to, Before::Nothing));
+        return moment_in(text, None).is_ok();
     }
     true
 }
 
 // What is wrong with a word that the option at a place can't have.
-pub fn complaint(p: usize) -> Trouble
-    ensures { result ≡ complaint p }
+pub fn complaint(p: usize, word: Word) -> Trouble
+    ensures { result ≡ complaint p word }
 {
     if p == BLOCK {
-        return Trouble::NoBlock;
+        return Trouble::NoBlock(word);
     }
     if p == AT {
-        return Trouble::NoTime;
+        return Trouble::NoTime(word);
     }
-    Trouble::NoAddress
+    Trouble::NoAddress(word)
 }
 
-pub fn block_in(args: &[u8], s: Said) -> u64
-    requires { Lies args.now s.word }
-    ensures { result ≡ block_in args.now s }
+pub fn block_in(args: &[u8], given: Option<Word>) -> u64
+    requires { GivenLies args.now given }
+    ensures { result ≡ block_in args.now given }
 {
-    let word = s.word;
-    let from = word.from;
-    let to = word.to;
-    value_below(BLOCK_BOUND, hexadecimal(args, from, to, 1))
+    match given {
+        Some(word) => value_below(BLOCK_BOUND, hexadecimal(word.text(args), 1)),
+        None => 0,
+    }
 }
 
-pub fn address_in(args: &[u8], s: Said) -> u64
-    requires { Lies args.now s.word }
-    ensures { result ≡ address_in args.now s }
+pub fn address_in(args: &[u8], given: Option<Word>) -> u64
+    requires { GivenLies args.now given }
+    ensures { result ≡ address_in args.now given }
 {
-    let word = s.word;
-    let from = word.from;
-    let to = word.to;
-    value_below(ADDRESS_BOUND, hexadecimal(args, from, to, 4))
+    match given {
+        Some(word) => value_below(ADDRESS_BOUND, hexadecimal(word.text(args), 4)),
+        None => 0,
+    }
+}
+
+pub fn time_in(args: &[u8], given: Option<Word>) -> Option<Time>
+    requires { GivenLies args.now given }
+    ensures { result ≡ time_in args.now given }
+{
+    match given {
+        Some(word) => moment_in(word.text(args), None).ok(),
+        None => None,
+    }
 }

@@ -4,28 +4,26 @@ use notices::{
     second_history, two_ranges,
 };
 use options::Trouble;
-use slices::first;
+use slices::{first, part};
 use text::{say, say_word};
+use words::Word;
 
 const ROOM: usize = 4096;
 
-// Troubles with one word.
-fn of_word(out: &mut [u8], trouble: Trouble, word: &[u8]) -> usize {
-    match trouble {
-        Trouble::NoSuchOption => no_option(out, 0, word),
-        Trouble::NothingAfter => no_word_after(out, 0, word),
-        Trouble::NoBlock => no_block(out, 0, word),
-        Trouble::NoAddress => no_address(out, 0, word),
-        Trouble::NoTime => no_time(out, 0, word),
-        Trouble::TwoHistories => second_history(out, 0, word),
-        _ => say_word(out, 0, b"wipe: @ is given twice\n", word),
-    }
+fn word_in(args: &[u8], word: Word) -> &[u8] {
+    part(args, word.from, word.to)
 }
 
-// Troubles with all words together, and with one.
-fn of_all(out: &mut [u8], trouble: Trouble, word: &[u8]) -> usize {
+// The trouble as a text, with the word that it lies in.
+fn put_trouble(out: &mut [u8], trouble: Trouble, args: &[u8]) -> usize {
     match trouble {
-        Trouble::Nothing => 0,
+        Trouble::NoSuchOption(word) => no_option(out, 0, word_in(args, word)),
+        Trouble::NothingAfter(word) => no_word_after(out, 0, word_in(args, word)),
+        Trouble::NoBlock(word) => no_block(out, 0, word_in(args, word)),
+        Trouble::NoAddress(word) => no_address(out, 0, word_in(args, word)),
+        Trouble::NoTime(word) => no_time(out, 0, word_in(args, word)),
+        Trouble::TwoHistories(word) => second_history(out, 0, word_in(args, word)),
+        Trouble::Twice(word) => say_word(out, 0, b"wipe: @ is given twice\n", word_in(args, word)),
         Trouble::NoHistory => no_history(out, 0),
         Trouble::ImageAndRestore => say(
             out,
@@ -36,14 +34,12 @@ fn of_all(out: &mut [u8], trouble: Trouble, word: &[u8]) -> usize {
         Trouble::BlockAndAddresses => two_ranges(out, 0),
         Trouble::HalfARange => say(out, 0, b"wipe: --from and --to want each other\n", &[]),
         Trouble::FromAfterTo => ends_early(out, 0),
-        _ => of_word(out, trouble, word),
     }
 }
 
-// Whether something is wrong, which is then said.
-pub fn complained<S: Print>(to: &S, trouble: Trouble, word: &[u8]) -> bool {
+// What is wrong with the arguments is said.
+pub fn complain<S: Print>(to: &S, trouble: Trouble, args: &[u8]) {
     let mut text = [0u8; ROOM];
-    let n = of_all(&mut text, trouble, word);
+    let n = put_trouble(&mut text, trouble, args);
     let _ = to.write_all(first(&text, n));
-    0 < n
 }

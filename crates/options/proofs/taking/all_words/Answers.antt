@@ -9,22 +9,10 @@ use Rattle.options.proofs.taking.all_words.Goals.{then-args-at-eq0, else-args-at
 pub loop-at-init : goal.loop-at-init
 loop-at-init c = read_none c.args.args.now
 
-pub bounds-args-at : goal.bounds-args-at
-bounds-args-at c = omega arith
-
 pub step_at-given-requires : goal.step_at-given-requires
 step_at-given-requires c =
     let l = c.loop-at in
     (record { ordered = l.invariant.order; inside = l.invariant.inside }, l.invariant.lies.stage)
-
-pub overflow_add-from : goal.overflow_add-from
-overflow_add-from c = omega arith
-
-pub overflow_add-at : goal.overflow_add-at
-overflow_add-at c = omega arith
-
-pub loop-at-smaller : goal.loop-at-smaller
-loop-at-smaller c = omega arith
 
 pub loop-at-preserved : goal.loop-at-preserved
 loop-at-preserved c =
