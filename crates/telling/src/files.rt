@@ -55,7 +55,7 @@ pub fn picture_drafted<R: Files, S: Print>(
     if path.len() == 0 {
         return true;
     }
-    if see_shades(record, array, charges, time, buffer) != 0 {
+    if see_shades(record, array, charges, time, buffer).is_err() {
         say_not_written(says, path);
         return false;
     }
