@@ -11,7 +11,7 @@ use course::Place;
 use course::memory::{Bytes, LONGEST};
 use text::putting::put_text;
 
-// Where a run stands then, and whether the line ended.
+// Where a run stands then, and whether the line ended. Each of the two has a place, so an enum would be no plainer.
 #[derive(Clone, Copy)]
 pub struct Fed {
     pub place: Place,

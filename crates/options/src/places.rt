@@ -1,5 +1,5 @@
 // The places of the options among their names: first the help, then those with no word after them, then those with one. The history has
-// the place after the last.
+// the place after the last. They are numbers since they index what is given, and an enum would be cast at each use.
 ghost use Rattle.std.specs.Prelude.{◌≡◌, ◌<◌};
 ghost use Rattle.std.specs.Option.{is_some};
 ghost use Rattle.options.specs.Arguments.{places, said_of};

@@ -44,7 +44,7 @@ fn in_word(b: u8) -> bool
     !(blank(b) || b == b'#')
 }
 
-// How many blanks stand first.
+// How many blanks stand first. The library proves a chain over a test that it sees, so this and the next are no one function over a test.
 fn blanks(bytes: &[u8]) -> usize
     ensures is { result ≡ prefix_len blank bytes.now }
     ensures inside { result ≤ length bytes.now }
