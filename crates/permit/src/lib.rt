@@ -1,4 +1,4 @@
-// The permit of normal reading: a struct that holds the array. It is made by the test of normal reading, and read by two thin functions;
+// The permit of normal reading: a struct that holds the array. It is made under normal reading alone, and read by two thin functions;
 // `byte_at` and `word_at`, on the slice, do the work.
 #![tactic(auto)]
 
@@ -10,18 +10,26 @@ ghost use Rattle.permit.specs.Permit.{shown};
 use registers::Registers;
 use time::Time;
 
-// The array is private: `normal_read` alone makes a permit.
+// The array is private: `normal_read` alone makes a permit, and `permit_at` tests for it.
 #[derive(Clone, Copy)]
 pub struct NormalRead<'a> {
     array: &'a [u8],
 }
 
-// The permit under normal reading, and else none. It shows the caller's own array, whole.
-pub fn normal_read<'a>(registers: Registers, time: Time, array: &'a [u8]) -> Option<NormalRead<'a>>
+// The permit, for a caller that has tested that reading is normal. It shows the caller's own array, whole.
+pub fn normal_read<'a>(registers: Registers, time: Time, array: &'a [u8]) -> NormalRead<'a>
+    requires { normal time registers ≡ true }
+    ensures { shown result ≡ array.entry }
+{
+    NormalRead { array }
+}
+
+// The permit where reading is normal, and else none.
+pub fn permit_at<'a>(registers: Registers, time: Time, array: &'a [u8]) -> Option<NormalRead<'a>>
     ensures { MatchOption result (normal time registers ≡ false) (λ permit. (normal time registers ≡ true) × (shown permit ≡ array.entry)) }
 {
     if registers.normal(time) {
-        Some(NormalRead { array })
+        Some(normal_read(registers, time, array))
     } else {
         None
     }
@@ -61,18 +69,12 @@ pub fn serve_byte(registers: Registers, time: Time, array: &[u8], address: usize
     requires { (normal time registers ≡ true) × (address < length array.now) }
     ensures { result ≡ at array.now address }
 {
-    match normal_read(registers, time, array) {
-        Some(permit) => read_byte(permit, address),
-        None => unreachable!(),
-    }
+    read_byte(normal_read(registers, time, array), address)
 }
 
 pub fn serve_word(registers: Registers, time: Time, array: &[u8], address: usize) -> u16
     requires { (normal time registers ≡ true) × (suc address < length array.now) }
     ensures { result ≡ 256 * at array.now address + at array.now (suc address) }
 {
-    match normal_read(registers, time, array) {
-        Some(permit) => read_word(permit, address),
-        None => unreachable!(),
-    }
+    read_word(normal_read(registers, time, array), address)
 }
