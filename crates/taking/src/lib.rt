@@ -9,8 +9,8 @@ use course::{Place, more};
 use fields::Fault;
 use grammar::Line;
 use history::take;
-use time::Time;
 use reason::Reason;
+use time::Time;
 
 // A look and a fault are done after the calls that wait, so that all is told in its order.
 fn is_due(line: Line) -> bool
