@@ -13,15 +13,9 @@ use Rattle.time.specs.declared.Time.{Time}
 use Rattle.cell.specs.Cell.{array_bytes}
 use Rattle.layout.specs.Layout.{accepted, decoded}
 use Rattle.lent.specs.Memory.{Memory, check, sizes_misfit, last_second, too_early}
-use Rattle.lent.specs.Looked.{Shown, sized_checks, sized_refusal, look_refusal, image_refusal}
+use Rattle.lent.specs.Looked.{sized_checks, sized_refusal, look_refusal, image_refusal}
 use Rattle.lent.proofs.Fitted.{Sizes, sizes-fit}
 use Rattle.lent.proofs.Lines.{given-first, given-after}
-
-pub shown-refused : {refusal answer number value : ℕ} → number ≡ refusal → number ≢ 0 → Shown refusal answer number value
-shown-refused e n = record { number_is = e; value_is = λ z. absurd (n (e ∙ z)) }
-
-pub shown : {refusal answer number value : ℕ} → number ≡ refusal → number ≡ 0 → value ≡ answer → Shown refusal answer 0 value
-shown e z v = record { number_is = sym z ∙ e; value_is = λ _. v }
 
 -- ---- the room for an image
 

@@ -29,11 +29,6 @@ memory_checks m = check 2 (misfits m) ∷ check 3 (refused3 m.bytes) ∷ []
 unfoldable pub memory_refusal : Memory → ℕ
 memory_refusal m = first_given (memory_checks m)
 
--- what a function shows of a look: the refusal's number, and the answer where it is 0
-pub record Shown (refusal answer number value : ℕ) : Type 0 where
-  pub number_is : number ≡ refusal
-  pub value_is : refusal ≡ 0 → value ≡ answer
-
 -- What is left in an answer's place: the answer, or on a refusal what stood there.
 abbrev pub answered : ℕ → ℕ → ℕ → ℕ
 answered zero value old = value

@@ -70,6 +70,7 @@ pub fn run(
     ensures { ended end from calls.now (idle events.old (memory_of (chip flash.old array.old charges.old))) ≡ record { done = result.done; last = leaves (chip flash.new array.new charges.new) events.new (told result.last) (value_of result.last) (count_of result.last) } }
 {
     let mut i: usize = from;
+    // No for: the place moves on past a run of light calls.
     loop {
         let ahead = run_light(*flash, calls, i, end);
         i = ahead.done;

@@ -92,6 +92,7 @@ fn check_pages(bytes: &[u8], count: usize, indices: &mut [u16]) -> Result<(), Re
     requires { (count ≤ pages) × (length indices.old ≡ pages) }
     ensures { (told result ≡ pages_number count 0 indices.old bytes.now pages_place) × OnOk result (indices.new ≡ pages_index count 0 indices.old bytes.now pages_place) }
 {
+    // The loops are left from inside, by the label: reading stops at the first bad cell.
     let mut outcome = Ok(());
     let mut at = FIRST_PAGE;
     'pages: for slot in 0..count {

@@ -24,7 +24,8 @@ const PIECE: usize = 65536;
 
 pub type Piece = [u8; PIECE];
 
-// A run over a file: how many bytes the piece has, whether the file may have more, and whether it could not be read.
+// A run over a file: how many bytes the piece has, whether the file may have more, and whether it could not be read. An enum of the last two
+// would be no plainer: steps and definitions go by `more` alone.
 #[derive(Clone, Copy)]
 pub struct Run {
     pub course: Course,

@@ -46,6 +46,7 @@ pub fn read_lines(
     ensures { Reads place calls.old numbers.old line.old piece.now result calls.new numbers.new line.new }
 {
     let mut p = place;
+    // No for: a turn goes to the end of a line, and the last one before the piece has ended.
     while reads_on(p, piece.len()) {
         p = read_on(p, piece, line, calls, numbers);
     }

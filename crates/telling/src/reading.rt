@@ -13,6 +13,7 @@ pub fn open<R: Files>(rt: &R, path: &[u8]) -> Option<R::File> {
 // Reads until the buffer is full, the file ends or a read fails, and answers how many bytes stand at the buffer's start.
 pub fn read_full<F: Read>(file: &mut F, buffer: &mut [u8]) -> usize {
     let mut done = 0;
+    // No for: a turn goes as far as one read.
     while done < buffer.len() {
         match file.read(&mut buffer[done..]) {
             Ok(0) => return done,
