@@ -52,15 +52,7 @@ fn turn<R: Print, F: Read>(
     )
 }
 
-// How many turns may still come. A proved loop has to end, and nothing says that a file does, so the turns are counted down.
-fn turns_after(turns: u32, reading: bool) -> u32
-    requires { 0 < turns }
-    ensures { result < turns }
-{
-    if reading { turns - 1 } else { 0 }
-}
-
-// All rows.
+// All rows. A proved loop has to end, and nothing says that a file does, so the turns are counted.
 fn replay<R: Print, F: Read>(
     rt: &R,
     file: &mut F,
@@ -73,12 +65,13 @@ fn replay<R: Print, F: Read>(
     table: &Table,
 ) -> Tally {
     let mut t = tally::begun();
-    let mut turns = u32::MAX;
-    while turns > 0 {
+    for _ in 0..u32::MAX {
         t = turn(
             rt, file, t, record, array, charges, events, image, buffer, table,
         );
-        turns = turns_after(turns, t.reading);
+        if !t.reading {
+            break;
+        }
     }
     t
 }
@@ -131,9 +124,7 @@ fn main(rt: HostRuntime) {
     match fs::open(&rt, LIST) {
         Ok(mut file) => {
             let mut t = replay_in_memory(&rt, &mut file);
-            if more(&mut file) {
-                t.whole = false;
-            }
+            t.whole &= !more(&mut file);
             tally::told(&rt, t);
         }
         Err(error) => complain(&rt, error),

@@ -6,29 +6,23 @@ use crate::row;
 use crate::row::Row;
 use host::looks::flash_new;
 use host::snapshots::flash_read_snapshot;
-use std::num::wrapping_add_usize;
-
-const LOW_32: u64 = 0x1_0000_0000;
 
 // The formula's next number.
 fn next(number: u32, factor: u32, step: u32) -> u32 {
-    (((number as u64) * (factor as u64) + (step as u64)) % LOW_32) as u32
+    number.wrapping_mul(factor).wrapping_add(step)
 }
 
 fn third_byte(number: u32) -> u8 {
-    (number / 65536 % 256) as u8
+    number.to_le_bytes()[2]
 }
 
 // Firmware by the row's formula: each byte is the third of a number, and the next number is this one times a factor plus a step.
 fn fill(buffer: &mut [u8], size: u32, seed: u32, factor: u32, step: u32) {
     let mut number = seed;
-    let mut left = size;
-    let mut i: usize = 0;
-    while left > 0 && i < buffer.len() {
-        buffer[i] = third_byte(number);
+    let end = up_to(size, buffer);
+    for byte in &mut buffer[..end] {
+        *byte = third_byte(number);
         number = next(number, factor, step);
-        left -= 1;
-        i += 1;
     }
 }
 
@@ -90,9 +84,7 @@ fn put(buffer: &mut [u8], at: usize, byte: u8) {
 pub fn patch(buffer: &mut [u8], row: &Row) {
     let at = row::size(row) as usize;
     let count = row::value(row) as usize;
-    let mut i: usize = 0;
-    while i < count && i < 8 {
-        put(buffer, wrapping_add_usize(at, i), row[24 + i]);
-        i += 1;
+    for i in 0..count.min(8) {
+        put(buffer, at.wrapping_add(i), row[24 + i]);
     }
 }

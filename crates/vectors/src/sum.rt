@@ -25,12 +25,8 @@ fn entry(byte: u32) -> u32 {
 
 pub fn table() -> Table {
     let mut made = [0u32; 256];
-    let mut byte: u32 = 0;
-    let mut i: usize = 0;
-    while i < 256 {
-        made[i] = entry(byte);
-        byte = std::num::wrapping_add_u32(byte, 1);
-        i += 1;
+    for byte in 0..256u32 {
+        made[byte as usize] = entry(byte);
     }
     made
 }
@@ -50,13 +46,10 @@ fn fed(table: &Table, sum: u32, byte: u8) -> u32 {
 
 // A sum after the first bytes of a slice, as many as it has of them.
 pub fn fed_bytes(table: &Table, begun: u32, bytes: &[u8], count: usize) -> u32 {
-    let mut sum = begun;
-    let mut i: usize = 0;
-    while i < count && i < bytes.len() {
-        sum = fed(table, sum, bytes[i]);
-        i += 1;
-    }
-    sum
+    bytes
+        .iter()
+        .take(count)
+        .fold(begun, |sum, byte| fed(table, sum, *byte))
 }
 
 // A sum after the eight bytes of a word, the low one first.
@@ -71,13 +64,9 @@ pub fn of_bytes(table: &Table, bytes: &[u8], count: usize) -> u32 {
 
 // The number of the first words of a slice.
 pub fn of_words(table: &Table, words: &[u64], count: u64) -> u32 {
-    let mut sum = ALL_BITS;
-    let mut left = count;
-    let mut i: usize = 0;
-    while left > 0 && i < words.len() {
-        sum = fed_word(table, sum, words[i]);
-        left -= 1;
-        i += 1;
-    }
-    sum ^ ALL_BITS
+    words
+        .iter()
+        .take(count as usize)
+        .fold(ALL_BITS, |sum, word| fed_word(table, sum, *word))
+        ^ ALL_BITS
 }

@@ -4,7 +4,6 @@ ghost use Rattle.std.specs.Prelude.{◌≤◌};
 use crate::row;
 use crate::row::Row;
 use crate::sum::{ALL_BITS, Table, fed_bytes};
-use std::num::wrapping_add_u64;
 
 #[derive(Clone, Copy)]
 pub struct Tally {
@@ -43,18 +42,18 @@ pub fn begun() -> Tally {
 // One more row, and its bytes in the sum.
 pub fn counted(mut t: Tally, table: &Table, row: &Row) -> Tally {
     t.sum = fed_bytes(table, t.sum, row, row::BYTES);
-    t.rows = wrapping_add_u64(t.rows, 1);
+    t.rows = t.rows.wrapping_add(1);
     t
 }
 
 // One more answer.
 pub fn answered(mut t: Tally, same: bool) -> Tally {
-    t.group_answers = wrapping_add_u64(t.group_answers, 1);
+    t.group_answers = t.group_answers.wrapping_add(1);
     if !same {
         if t.group_differ == 0 {
             t.first = t.rows;
         }
-        t.group_differ = wrapping_add_u64(t.group_differ, 1);
+        t.group_differ = t.group_differ.wrapping_add(1);
     }
     t
 }
@@ -68,7 +67,7 @@ pub fn stopped(mut t: Tally) -> Tally {
 // The last row: it has the number of rows and the sum of all bytes before that sum.
 pub fn ended(mut t: Tally, table: &Table, row: &Row) -> Tally {
     let sum = fed_bytes(table, t.sum, row, row::SUMMED) ^ ALL_BITS;
-    let rows = wrapping_add_u64(t.rows, 1);
+    let rows = t.rows.wrapping_add(1);
     t.reading = false;
     t.sum = sum;
     t.rows = rows;
@@ -108,8 +107,8 @@ fn say_group<R: Print>(rt: &R, t: Tally) {
 // The group's answers go into the total.
 fn closed<R: Print>(rt: &R, mut t: Tally) -> Tally {
     say_group(rt, t);
-    t.answers = wrapping_add_u64(t.answers, t.group_answers);
-    t.differ = wrapping_add_u64(t.differ, t.group_differ);
+    t.answers = t.answers.wrapping_add(t.group_answers);
+    t.differ = t.differ.wrapping_add(t.group_differ);
     t.group_answers = 0;
     t.group_differ = 0;
     t
@@ -125,7 +124,7 @@ fn name_length(row: &Row) -> usize
 // The next group: its line begins with its name.
 pub fn opened<R: Print>(rt: &R, t: Tally, row: &Row) -> Tally {
     let mut next = closed(rt, t);
-    next.groups = wrapping_add_u64(next.groups, 1);
+    next.groups = next.groups.wrapping_add(1);
     let end = 2 + name_length(row);
     let bytes: &[u8] = row;
     say(rt, &bytes[2..end]);
