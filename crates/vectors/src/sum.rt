@@ -1,6 +1,4 @@
 // CRC-32 as zip files have it: polynomial EDB88320 hex, bits from the low end, begun and ended with all bits turned.
-ghost use Rattle.std.specs.Prelude.{◌<◌};
-
 // The sums of all bytes. It is made once and lent, since a constant would be built anew at each use.
 pub type Table = [u32; 256];
 
@@ -31,17 +29,10 @@ pub fn table() -> Table {
     made
 }
 
-// Where in the table the next byte stands.
-fn slot(sum: u32, byte: u8) -> usize
-    ensures { result < 256 }
-{
-    ((sum ^ (byte as u32)) % 256) as usize
-}
-
 // A sum after one more byte.
 fn fed(table: &Table, sum: u32, byte: u8) -> u32 {
-    let i = slot(sum, byte);
-    table[i] ^ (sum / 256)
+    let low = sum.to_le_bytes()[0];
+    table[usize::from(low ^ byte)] ^ (sum / 256)
 }
 
 // A sum after the first bytes of a slice, as many as it has of them.

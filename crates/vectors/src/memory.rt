@@ -1,0 +1,22 @@
+// What the calls work on, and what their answers are held against the rows with.
+use crate::sum::Table;
+use cell::{CELLS, FLASH_SIZE};
+use layout::RECORD_LEN;
+
+// Event words for the largest range, block 4, and its end.
+pub const EVENT_WORDS: usize = 0x7001;
+
+// The longest snapshot: every page opened, a sense pending.
+pub const LONGEST: usize = 3195926;
+
+// The lent memory: record, array, charge store, event words, image, and the buffer of snapshots; and the table of sums.
+#[derive(Drop)]
+pub struct Memory {
+    pub record: [u8; RECORD_LEN],
+    pub array: [u8; FLASH_SIZE],
+    pub charges: [u64; CELLS],
+    pub events: [u64; EVENT_WORDS],
+    pub image: [u8; FLASH_SIZE],
+    pub buffer: [u8; LONGEST],
+    pub table: Table,
+}
