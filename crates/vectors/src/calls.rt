@@ -10,7 +10,7 @@ use host::calls::{
 // A count that no call gives, so that one which is not written shows.
 const UNWRITTEN: u64 = 65536;
 
-// A call of that name at the row's time; its own arguments stand before the time, and the places of its answer after it.
+// The call of that name on the lent memory, at the row's time. What else it is given stands before the time, and where its answer goes after it.
 macro_rules! run {
     ($name:ident, $memory:ident, $row:ident, [$($given:expr),*], $($place:expr),+) => {
         $name(
@@ -34,22 +34,23 @@ fn told(memory: &Memory, row: &Row, number: u32, count: u64, value: u16) -> bool
         && of_words(&memory.table, &memory.events, count) == row.event_sum()
 }
 
-// A call that reads: its value is held against the row too.
-fn read(memory: &mut Memory, row: &Row) -> bool {
+fn read8(memory: &mut Memory, row: &Row) -> bool {
     let mut count = UNWRITTEN;
     let mut byte: u8 = 0;
+    let number = run!(
+        flash_read8,
+        memory,
+        row,
+        [row.address()],
+        &mut byte,
+        &mut count
+    );
+    told(memory, row, number, count, u16::from(byte))
+}
+
+fn read16(memory: &mut Memory, row: &Row) -> bool {
+    let mut count = UNWRITTEN;
     let mut word: u16 = 0;
-    if row.kind() == Ok(Kind::Read8) {
-        let number = run!(
-            flash_read8,
-            memory,
-            row,
-            [row.address()],
-            &mut byte,
-            &mut count
-        );
-        return told(memory, row, number, count, u16::from(byte));
-    }
     let number = run!(
         flash_read16,
         memory,
@@ -79,7 +80,8 @@ pub fn call(memory: &mut Memory, row: &Row) -> bool {
             [row.address(), row.value()],
             &mut count
         ),
-        Ok(Kind::Read8 | Kind::Read16) => return read(memory, row),
+        Ok(Kind::Read8) => return read8(memory, row),
+        Ok(Kind::Read16) => return read16(memory, row),
         Ok(Kind::Protect) => run!(flash_protect, memory, row, [], &mut count),
         Ok(Kind::Reset) => run!(flash_reset, memory, row, [], &mut count),
         Ok(Kind::PowerOff) => run!(flash_power_off, memory, row, [], &mut count),

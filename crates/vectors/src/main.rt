@@ -12,9 +12,7 @@ mod sum;
 mod taking;
 mod tally;
 
-use cell::{CELLS, FLASH_SIZE};
-use layout::RECORD_LEN;
-use memory::{EVENT_WORDS, LONGEST, Memory};
+use memory::{EMPTY, Memory};
 use row::Row;
 use std::io::Read;
 use std::{fs, io};
@@ -45,17 +43,10 @@ fn replay<R: Print, F: Read>(rt: &R, file: &mut F, memory: &mut Memory) -> Tally
     t
 }
 
-// The lent memory stands in this function alone: a function pays at entry for the size of what it keeps.
+// The memory stands in this function alone: a function pays at entry for the size of what it keeps.
 fn replay_in_memory<R: Print, F: Read>(rt: &R, file: &mut F) -> Tally {
-    let mut memory = Memory {
-        record: [0; RECORD_LEN],
-        array: [0; FLASH_SIZE],
-        charges: [0; CELLS],
-        events: [0; EVENT_WORDS],
-        image: [0; FLASH_SIZE],
-        buffer: [0; LONGEST],
-        table: sum::table(),
-    };
+    let mut memory = EMPTY;
+    memory.table = sum::table();
     replay(rt, file, &mut memory)
 }
 
@@ -67,10 +58,8 @@ fn more<F: Read>(file: &mut F) -> bool {
 
 // The words of an error without its number.
 fn words_of(said: &str) -> &str {
-    match said.split_once(" (os error ") {
-        Some((words, _)) => words,
-        None => said,
-    }
+    said.split_once(" (os error ")
+        .map_or(said, |(words, _)| words)
 }
 
 // Why the list can't be read.

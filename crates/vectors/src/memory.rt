@@ -1,4 +1,4 @@
-// What the calls work on, and what their answers are held against the rows with.
+// The memory that the calls are lent, as a host would lend it.
 use crate::sum::Table;
 use cell::{CELLS, FLASH_SIZE};
 use layout::RECORD_LEN;
@@ -9,7 +9,7 @@ pub const EVENT_WORDS: usize = 0x7001;
 // The longest snapshot: every page opened, a sense pending.
 pub const LONGEST: usize = 3195926;
 
-// The lent memory: record, array, charge store, event words, image, and the buffer of snapshots; and the table of sums.
+// Record, array, charge store, event words, image, and the buffer of snapshots; and the table of sums.
 #[derive(Drop)]
 pub struct Memory {
     pub record: [u8; RECORD_LEN],
@@ -20,3 +20,14 @@ pub struct Memory {
     pub buffer: [u8; LONGEST],
     pub table: Table,
 }
+
+// A constant, since the arrays of a literal are first made beside the struct, and both have no room on a stack of 8 MB.
+pub const EMPTY: Memory = Memory {
+    record: [0; RECORD_LEN],
+    array: [0; FLASH_SIZE],
+    charges: [0; CELLS],
+    events: [0; EVENT_WORDS],
+    image: [0; FLASH_SIZE],
+    buffer: [0; LONGEST],
+    table: [0; 256],
+};

@@ -1,4 +1,5 @@
 // CRC-32 as zip files have it: polynomial EDB88320 hex, bits from the low end, begun and ended with all bits turned.
+
 // The sums of all bytes. It is made once and lent, since a constant would be built anew at each use.
 pub type Table = [u32; 256];
 
@@ -17,8 +18,7 @@ fn shifted(sum: u32) -> u32 {
 
 // The table's entry for a byte: eight bits later.
 fn entry(byte: u32) -> u32 {
-    let half = shifted(shifted(shifted(shifted(byte))));
-    shifted(shifted(shifted(shifted(half))))
+    (0..8).fold(byte, |sum, _| shifted(sum))
 }
 
 pub fn table() -> Table {

@@ -3,7 +3,7 @@ use crate::row;
 use crate::row::Row;
 use crate::sum::{ALL_BITS, Table, fed_bytes};
 
-#[derive(Clone, Copy)]
+#[derive(Clone, Copy, Default)]
 pub struct Tally {
     // Whether rows are still to come, and whether the last row was as it has to be.
     pub reading: bool,
@@ -25,16 +25,8 @@ impl Tally {
     pub fn begun() -> Tally {
         Tally {
             reading: true,
-            whole: false,
             sum: ALL_BITS,
-            rows: 0,
-            groups: 0,
-            answers: 0,
-            differ: 0,
-            group_answers: 0,
-            group_differ: 0,
-            first: 0,
-            length: 0,
+            ..Tally::default()
         }
     }
 
@@ -65,20 +57,15 @@ impl Tally {
 
     // The rest of a group's line; nothing before the first group.
     fn say_group<R: Print>(&self, rt: &R) {
-        let Tally {
-            group_answers,
-            group_differ,
-            first,
-            ..
-        } = *self;
         if self.groups == 0 {
             return;
         }
-        let _ = if group_differ == 0 {
-            println!(rt; "{group_answers} answers as recorded")
+        let _ = if self.group_differ == 0 {
+            println!(rt; "{} answers as recorded", self.group_answers)
         } else {
             println!(rt;
-                "{group_answers} answers, of which {group_differ} differ, the first in row {first}"
+                "{} answers, of which {} differ, the first in row {}",
+                self.group_answers, self.group_differ, self.first
             )
         };
     }
