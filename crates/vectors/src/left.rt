@@ -68,12 +68,10 @@ fn snapshot_same(memory: &mut Memory, row: &Row) -> bool {
 
 // What takes no time to see: registers and snapshot. The snapshot stands in the buffer afterwards.
 pub fn still_same(memory: &mut Memory, row: &Row) -> bool {
-    let registers = registers_same(memory, row);
-    registers & snapshot_same(memory, row)
+    registers_same(memory, row) & snapshot_same(memory, row)
 }
 
 // What is seen at the row's time.
 pub fn timed_same(memory: &mut Memory, row: &Row) -> bool {
-    let flags = normal_same(memory, row) & valid_same(memory, row);
-    flags & image_same(memory, row)
+    normal_same(memory, row) & valid_same(memory, row) & image_same(memory, row)
 }

@@ -25,11 +25,7 @@ fn seen_at_a_time(row: &Row) -> bool {
 
 // Whether all that a row leaves is as recorded.
 fn left_same(memory: &mut Memory, row: &Row) -> bool {
-    let still = still_same(memory, row);
-    if seen_at_a_time(row) {
-        return still & timed_same(memory, row);
-    }
-    still
+    still_same(memory, row) & (!seen_at_a_time(row) || timed_same(memory, row))
 }
 
 // A row that has an answer.
