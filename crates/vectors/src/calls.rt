@@ -1,7 +1,7 @@
 // The ledger's calls: each is run on the lent memory, and its answer held against the row.
-use crate::row;
-use crate::row::Row;
-use crate::sum::{Table, of_words};
+use crate::memory::Memory;
+use crate::row::{Kind, Row};
+use crate::sum::of_words;
 use host::calls::{
     flash_environment, flash_power_off, flash_protect, flash_read8, flash_read16, flash_reset,
     flash_write_register, flash_write8,
@@ -10,228 +10,69 @@ use host::calls::{
 // A count that no call gives, so that one which is not written shows.
 const UNWRITTEN: u64 = 65536;
 
+// The call of that name on the lent memory, at the row's time. What else it is given stands in brackets; its count of event words goes into
+// the first variable after them, and what it reads into the next.
+macro_rules! run {
+    ($name:ident, $memory:ident, $row:ident, [$($given:expr),*], $count:ident $(, $value:ident)?) => {
+        $name(
+            &mut $memory.record,
+            &mut $memory.array,
+            &mut $memory.charges,
+            &mut $memory.events,
+            $($given,)*
+            $row.seconds(),
+            $row.fraction(),
+            $(&mut $value,)?
+            &mut $count,
+        )
+    };
+}
+
 // Whether an answer, its event words included, is the recorded one.
-fn told(events: &[u64], table: &Table, row: &Row, number: u32, count: u64, value: u16) -> bool {
+fn told(memory: &Memory, row: &Row, number: u32, count: u64, value: u16) -> bool {
     number == 0
-        && count == row::event_count(row) as u64
-        && value == row::answer(row)
-        && of_words(table, events, count) == row::event_sum(row)
-}
-
-fn write_register(
-    record: &mut [u8],
-    array: &mut [u8],
-    charges: &mut [u64],
-    events: &mut [u64],
-    table: &Table,
-    row: &Row,
-) -> bool {
-    let mut count = UNWRITTEN;
-    let number = flash_write_register(
-        record,
-        array,
-        charges,
-        events,
-        row::address(row),
-        row::value(row),
-        row::seconds(row),
-        row::fraction(row),
-        &mut count,
-    );
-    told(events, table, row, number, count, 0)
-}
-
-fn write8(
-    record: &mut [u8],
-    array: &mut [u8],
-    charges: &mut [u64],
-    events: &mut [u64],
-    table: &Table,
-    row: &Row,
-) -> bool {
-    let mut count = UNWRITTEN;
-    let number = flash_write8(
-        record,
-        array,
-        charges,
-        events,
-        row::address(row),
-        row::value(row),
-        row::seconds(row),
-        row::fraction(row),
-        &mut count,
-    );
-    told(events, table, row, number, count, 0)
-}
-
-fn read8(
-    record: &mut [u8],
-    array: &mut [u8],
-    charges: &mut [u64],
-    events: &mut [u64],
-    table: &Table,
-    row: &Row,
-) -> bool {
-    let mut count = UNWRITTEN;
-    let mut value: u8 = 0;
-    let number = flash_read8(
-        record,
-        array,
-        charges,
-        events,
-        row::address(row),
-        row::seconds(row),
-        row::fraction(row),
-        &mut value,
-        &mut count,
-    );
-    told(events, table, row, number, count, value as u16)
-}
-
-fn read16(
-    record: &mut [u8],
-    array: &mut [u8],
-    charges: &mut [u64],
-    events: &mut [u64],
-    table: &Table,
-    row: &Row,
-) -> bool {
-    let mut count = UNWRITTEN;
-    let mut value: u16 = 0;
-    let number = flash_read16(
-        record,
-        array,
-        charges,
-        events,
-        row::address(row),
-        row::seconds(row),
-        row::fraction(row),
-        &mut value,
-        &mut count,
-    );
-    told(events, table, row, number, count, value)
-}
-
-fn protect(
-    record: &mut [u8],
-    array: &mut [u8],
-    charges: &mut [u64],
-    events: &mut [u64],
-    table: &Table,
-    row: &Row,
-) -> bool {
-    let mut count = UNWRITTEN;
-    let number = flash_protect(
-        record,
-        array,
-        charges,
-        events,
-        row::seconds(row),
-        row::fraction(row),
-        &mut count,
-    );
-    told(events, table, row, number, count, 0)
-}
-
-fn reset(
-    record: &mut [u8],
-    array: &mut [u8],
-    charges: &mut [u64],
-    events: &mut [u64],
-    table: &Table,
-    row: &Row,
-) -> bool {
-    let mut count = UNWRITTEN;
-    let number = flash_reset(
-        record,
-        array,
-        charges,
-        events,
-        row::seconds(row),
-        row::fraction(row),
-        &mut count,
-    );
-    told(events, table, row, number, count, 0)
-}
-
-fn power_off(
-    record: &mut [u8],
-    array: &mut [u8],
-    charges: &mut [u64],
-    events: &mut [u64],
-    table: &Table,
-    row: &Row,
-) -> bool {
-    let mut count = UNWRITTEN;
-    let number = flash_power_off(
-        record,
-        array,
-        charges,
-        events,
-        row::seconds(row),
-        row::fraction(row),
-        &mut count,
-    );
-    told(events, table, row, number, count, 0)
-}
-
-fn environment(
-    record: &mut [u8],
-    array: &mut [u8],
-    charges: &mut [u64],
-    events: &mut [u64],
-    table: &Table,
-    row: &Row,
-) -> bool {
-    let mut count = UNWRITTEN;
-    let number = flash_environment(
-        record,
-        array,
-        charges,
-        events,
-        row::value(row),
-        row::module(row),
-        row::oscillator(row),
-        row::seconds(row),
-        row::fraction(row),
-        &mut count,
-    );
-    told(events, table, row, number, count, 0)
+        && count == u64::from(row.event_count())
+        && value == row.answer()
+        && of_words(&memory.table, &memory.events, count) == row.event_sum()
 }
 
 // The call that the row's letter names.
-pub fn call(
-    record: &mut [u8],
-    array: &mut [u8],
-    charges: &mut [u64],
-    events: &mut [u64],
-    table: &Table,
-    row: &Row,
-) -> bool {
-    let letter = row::letter(row);
-    if letter == row::WRITE_REGISTER {
-        return write_register(record, array, charges, events, table, row);
-    }
-    if letter == row::WRITE8 {
-        return write8(record, array, charges, events, table, row);
-    }
-    if letter == row::READ8 {
-        return read8(record, array, charges, events, table, row);
-    }
-    if letter == row::READ16 {
-        return read16(record, array, charges, events, table, row);
-    }
-    if letter == row::PROTECT {
-        return protect(record, array, charges, events, table, row);
-    }
-    if letter == row::RESET {
-        return reset(record, array, charges, events, table, row);
-    }
-    if letter == row::POWER_OFF {
-        return power_off(record, array, charges, events, table, row);
-    }
-    if letter == row::ENVIRONMENT {
-        return environment(record, array, charges, events, table, row);
-    }
-    false
+pub fn call(memory: &mut Memory, row: &Row) -> bool {
+    let mut count = UNWRITTEN;
+    let mut value: u16 = 0;
+    let number = match row.kind() {
+        Ok(Kind::WriteRegister) => run!(
+            flash_write_register,
+            memory,
+            row,
+            [row.address(), row.value()],
+            count
+        ),
+        Ok(Kind::Write8) => run!(
+            flash_write8,
+            memory,
+            row,
+            [row.address(), row.value()],
+            count
+        ),
+        Ok(Kind::Read8) => {
+            let mut byte: u8 = 0;
+            let number = run!(flash_read8, memory, row, [row.address()], count, byte);
+            value = u16::from(byte);
+            number
+        }
+        Ok(Kind::Read16) => run!(flash_read16, memory, row, [row.address()], count, value),
+        Ok(Kind::Protect) => run!(flash_protect, memory, row, [], count),
+        Ok(Kind::Reset) => run!(flash_reset, memory, row, [], count),
+        Ok(Kind::PowerOff) => run!(flash_power_off, memory, row, [], count),
+        Ok(Kind::Environment) => run!(
+            flash_environment,
+            memory,
+            row,
+            [row.value(), row.module(), row.oscillator()],
+            count
+        ),
+        _ => return false,
+    };
+    told(memory, row, number, count, value)
 }

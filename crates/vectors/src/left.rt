@@ -1,94 +1,77 @@
 // What a call leaves, held against its row.
-use crate::row;
+use crate::looks::{NEITHER, shows};
+use crate::memory::Memory;
 use crate::row::Row;
-use crate::sum::{Table, of_bytes};
+use crate::sum::of_bytes;
 use bits::{EBR1, FENR, FLMCR1, FLMCR2, FLPWCR};
 use host::looks::{flash_image, flash_normal, flash_register};
 use host::snapshots::{flash_validate, flash_write_snapshot};
 
-pub fn register_same(record: &[u8], address: u16, recorded: u8) -> bool {
-    let mut value: u8 = 0;
-    let number = flash_register(record, address, &mut value);
-    number == 0 && value == recorded
+pub fn register_same(memory: &Memory, address: u16, recorded: u8) -> bool {
+    shows(
+        0,
+        recorded,
+        |value| flash_register(&memory.record, address, value),
+    )
 }
 
-fn registers_same(record: &[u8], row: &Row) -> bool {
-    register_same(record, FLMCR1, row[36])
-        & register_same(record, FLMCR2, row[37])
-        & register_same(record, FLPWCR, row[38])
-        & register_same(record, EBR1, row[39])
-        & register_same(record, FENR, row[40])
+fn registers_same(memory: &Memory, row: &Row) -> bool {
+    register_same(memory, FLMCR1, row.flmcr1())
+        & register_same(memory, FLMCR2, row.flmcr2())
+        & register_same(memory, FLPWCR, row.flpwcr())
+        & register_same(memory, EBR1, row.ebr1())
+        & register_same(memory, FENR, row.fenr())
 }
 
-fn normal_same(record: &[u8], row: &Row) -> bool {
-    let mut normal: u8 = 2;
-    let number = flash_normal(record, row::seconds(row), row::fraction(row), &mut normal);
-    number == 0 && normal == row::normal(row)
+fn normal_same(memory: &Memory, row: &Row) -> bool {
+    shows(
+        NEITHER,
+        row.normal(),
+        |normal| flash_normal(&memory.record, row.seconds(), row.fraction(), normal),
+    )
 }
 
-fn valid_same(record: &[u8], row: &Row) -> bool {
-    let mut valid: u8 = 2;
-    let number = flash_validate(record, row::seconds(row), row::fraction(row), &mut valid);
-    number == 0 && valid == row::valid(row)
+fn valid_same(memory: &Memory, row: &Row) -> bool {
+    shows(
+        NEITHER,
+        row.valid(),
+        |valid| flash_validate(&memory.record, row.seconds(), row.fraction(), valid),
+    )
 }
 
-fn image_same(
-    record: &[u8],
-    array: &[u8],
-    charges: &[u64],
-    image: &mut [u8],
-    table: &Table,
-    row: &Row,
-) -> bool {
+fn image_same(memory: &mut Memory, row: &Row) -> bool {
     let number = flash_image(
-        record,
-        array,
-        charges,
-        row::seconds(row),
-        row::fraction(row),
-        image,
+        &memory.record,
+        &memory.array,
+        &memory.charges,
+        row.seconds(),
+        row.fraction(),
+        &mut memory.image,
     );
-    number == 0 && of_bytes(table, image, image.len()) == row::image_sum(row)
+    number == 0 && of_bytes(&memory.table, &memory.image, memory.image.len()) == row.image_sum()
 }
 
-fn snapshot_same(
-    record: &[u8],
-    array: &[u8],
-    charges: &[u64],
-    snapshot: &mut [u8],
-    table: &Table,
-    row: &Row,
-) -> bool {
+fn snapshot_same(memory: &mut Memory, row: &Row) -> bool {
     let mut length: u64 = 0;
-    let number = flash_write_snapshot(record, array, charges, snapshot, &mut length);
-    let recorded = row::snapshot_length(row);
+    let number = flash_write_snapshot(
+        &memory.record,
+        &memory.array,
+        &memory.charges,
+        &mut memory.buffer,
+        &mut length,
+    );
+    let recorded = row.snapshot_length();
     number == 0
-        && length == recorded as u64
-        && of_bytes(table, snapshot, recorded as usize) == row::snapshot_sum(row)
+        && length == u64::from(recorded)
+        && of_bytes(&memory.table, &memory.buffer, recorded as usize) == row.snapshot_sum()
 }
 
-// What takes no time to see: registers and snapshot.
-pub fn still_same(
-    record: &[u8],
-    array: &[u8],
-    charges: &[u64],
-    snapshot: &mut [u8],
-    table: &Table,
-    row: &Row,
-) -> bool {
-    let registers = registers_same(record, row);
-    registers & snapshot_same(record, array, charges, snapshot, table, row)
+// What takes no time to see: registers and snapshot. The snapshot stands in the buffer afterwards.
+pub fn still_same(memory: &mut Memory, row: &Row) -> bool {
+    registers_same(memory, row) & snapshot_same(memory, row)
 }
 
 // What is seen at the row's time.
-pub fn timed_same(
-    record: &[u8],
-    array: &[u8],
-    charges: &[u64],
-    image: &mut [u8],
-    table: &Table,
-    row: &Row,
-) -> bool {
-    let flags = normal_same(record, row) & valid_same(record, row);
-    flags & image_same(record, array, charges, image, table, row)
+pub fn timed_same(memory: &mut Memory, row: &Row) -> bool {
+    normal_same(memory, row) & valid_same(memory, row) & image_same(memory, row)
 }

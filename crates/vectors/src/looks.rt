@@ -1,53 +1,66 @@
 // Looking at an address and a bit: byte, charge and blank page.
-use crate::row;
+use crate::memory::Memory;
 use crate::row::Row;
 use host::looks::{flash_blank_page, flash_cell_charge, flash_peek};
 
-fn peek_same(record: &[u8], array: &[u8], charges: &[u64], row: &Row) -> bool {
-    let mut value: u8 = 0;
-    let number = flash_peek(
-        record,
-        array,
-        charges,
-        row::address(row),
-        row::seconds(row),
-        row::fraction(row),
-        &mut value,
-    );
-    number == 0 && value == row::peek(row)
+// A number that no look shows where it shows whether something is so: one which is not written shows.
+pub const NEITHER: u8 = 2;
+
+// Whether a look is accepted and shows the recorded value.
+pub fn shows<V: Copy + PartialEq, F: FnOnce(&mut V) -> u32>(
+    unwritten: V,
+    recorded: V,
+    look: F,
+) -> bool
+    requires { F.IsAlwaysCallable look }
+{
+    let mut value = unwritten;
+    look(&mut value) == 0 && value == recorded
 }
 
-fn charge_same(record: &[u8], array: &[u8], charges: &[u64], row: &Row) -> bool {
-    let mut charge: u64 = 0;
-    let number = flash_cell_charge(
-        record,
-        array,
-        charges,
-        row::address(row),
-        row::value(row),
-        row::seconds(row),
-        row::fraction(row),
-        &mut charge,
-    );
-    number == 0 && charge == row::charge(row)
+fn peek_same(memory: &Memory, row: &Row) -> bool {
+    shows(0, row.peek(), |value| {
+        flash_peek(
+            &memory.record,
+            &memory.array,
+            &memory.charges,
+            row.address(),
+            row.seconds(),
+            row.fraction(),
+            value,
+        )
+    })
 }
 
-fn blank_same(record: &[u8], array: &[u8], charges: &[u64], row: &Row) -> bool {
-    let mut blank: u8 = 2;
-    let number = flash_blank_page(
-        record,
-        array,
-        charges,
-        row::address(row),
-        row::seconds(row),
-        row::fraction(row),
-        &mut blank,
-    );
-    number == 0 && blank == row::blank(row)
+fn charge_same(memory: &Memory, row: &Row) -> bool {
+    shows(0, row.charge(), |value| {
+        flash_cell_charge(
+            &memory.record,
+            &memory.array,
+            &memory.charges,
+            row.address(),
+            row.value(),
+            row.seconds(),
+            row.fraction(),
+            value,
+        )
+    })
 }
 
-pub fn look(record: &[u8], array: &[u8], charges: &[u64], row: &Row) -> bool {
-    peek_same(record, array, charges, row)
-        & charge_same(record, array, charges, row)
-        & blank_same(record, array, charges, row)
+fn blank_same(memory: &Memory, row: &Row) -> bool {
+    shows(NEITHER, row.blank(), |value| {
+        flash_blank_page(
+            &memory.record,
+            &memory.array,
+            &memory.charges,
+            row.address(),
+            row.seconds(),
+            row.fraction(),
+            value,
+        )
+    })
+}
+
+pub fn look(memory: &Memory, row: &Row) -> bool {
+    peek_same(memory, row) & charge_same(memory, row) & blank_same(memory, row)
 }

@@ -6,103 +6,48 @@ mod calls;
 mod left;
 mod looks;
 mod making;
+mod memory;
 mod row;
 mod sum;
 mod taking;
 mod tally;
 
-ghost use Rattle.std.specs.Prelude.{◌<◌};
-
-use cell::{CELLS, FLASH_SIZE};
-use layout::RECORD_LEN;
+use memory::{EMPTY, Memory};
+use row::Row;
 use std::io::Read;
 use std::{fs, io};
-use sum::Table;
 use taking::taken;
 use tally::Tally;
 
 // The file with the list.
 const LIST: &str = "answers";
 
-// Event words for the largest range, block 4, and its end.
-const EVENT_WORDS: usize = 0x7001;
-
-// The longest snapshot: every page opened, a sense pending.
-const LONGEST: usize = 3195926;
-
-// Reads one row and takes it; the list stops where no whole row is left.
-fn turn<R: Print, F: Read>(
-    rt: &R,
-    file: &mut F,
-    t: Tally,
-    record: &mut [u8],
-    array: &mut [u8],
-    charges: &mut [u64],
-    events: &mut [u64],
-    image: &mut [u8],
-    buffer: &mut [u8],
-    table: &Table,
-) -> Tally {
-    let mut row = [0u8; row::BYTES];
-    if file.read_exact(&mut row).is_err() {
-        return tally::stopped(t);
+// Reads one row and takes it; the list stops where no whole row is left, and then its end is missing.
+fn turn<R: Print, F: Read>(rt: &R, file: &mut F, t: &mut Tally, memory: &mut Memory) {
+    let mut row = Row([0; row::BYTES]);
+    match file.read_exact(&mut row.0) {
+        Ok(()) => taken(rt, t, memory, &row),
+        Err(_) => t.reading = false,
     }
-    taken(
-        rt, t, record, array, charges, events, image, buffer, table, &row,
-    )
 }
 
-// How many turns may still come. A proved loop has to end, and nothing says that a file does, so the turns are counted down.
-fn turns_after(turns: u32, reading: bool) -> u32
-    requires { 0 < turns }
-    ensures { result < turns }
-{
-    if reading { turns - 1 } else { 0 }
-}
-
-// All rows.
-fn replay<R: Print, F: Read>(
-    rt: &R,
-    file: &mut F,
-    record: &mut [u8; RECORD_LEN],
-    array: &mut [u8; FLASH_SIZE],
-    charges: &mut [u64; CELLS],
-    events: &mut [u64; EVENT_WORDS],
-    image: &mut [u8; FLASH_SIZE],
-    buffer: &mut [u8; LONGEST],
-    table: &Table,
-) -> Tally {
-    let mut t = tally::begun();
-    let mut turns = u32::MAX;
-    while turns > 0 {
-        t = turn(
-            rt, file, t, record, array, charges, events, image, buffer, table,
-        );
-        turns = turns_after(turns, t.reading);
+// All rows. A proved loop has to end, and nothing says that a file does, so the turns are counted.
+fn replay<R: Print, F: Read>(rt: &R, file: &mut F, memory: &mut Memory) -> Tally {
+    let mut t = Tally::begun();
+    for _ in 0..u32::MAX {
+        turn(rt, file, &mut t, memory);
+        if !t.reading {
+            break;
+        }
     }
     t
 }
 
-// The lent memory: record, array, charge store, event words, image, and the buffer of snapshots.
+// The memory stands in this function alone: a function pays at entry for the size of what it keeps.
 fn replay_in_memory<R: Print, F: Read>(rt: &R, file: &mut F) -> Tally {
-    let mut record = [0u8; RECORD_LEN];
-    let mut array = [0u8; FLASH_SIZE];
-    let mut charges = [0u64; CELLS];
-    let mut events = [0u64; EVENT_WORDS];
-    let mut image = [0u8; FLASH_SIZE];
-    let mut buffer = [0u8; LONGEST];
-    let table = sum::table();
-    replay(
-        rt,
-        file,
-        &mut record,
-        &mut array,
-        &mut charges,
-        &mut events,
-        &mut image,
-        &mut buffer,
-        &table,
-    )
+    let mut memory = EMPTY;
+    memory.table = sum::table();
+    replay(rt, file, &mut memory)
 }
 
 // Whether bytes come after the last row.
@@ -113,10 +58,8 @@ fn more<F: Read>(file: &mut F) -> bool {
 
 // The words of an error without its number.
 fn words_of(said: &str) -> &str {
-    match said.split_once(" (os error ") {
-        Some((words, _)) => words,
-        None => said,
-    }
+    said.split_once(" (os error ")
+        .map_or(said, |(words, _)| words)
 }
 
 // Why the list can't be read.
@@ -131,10 +74,8 @@ fn main(rt: HostRuntime) {
     match fs::open(&rt, LIST) {
         Ok(mut file) => {
             let mut t = replay_in_memory(&rt, &mut file);
-            if more(&mut file) {
-                t.whole = false;
-            }
-            tally::told(&rt, t);
+            t.whole &= !more(&mut file);
+            t.told(&rt);
         }
         Err(error) => complain(&rt, error),
     }

@@ -1,98 +1,50 @@
 // How an array begins: from firmware, or from a snapshot. Both are bytes at the beginning of one buffer: each row's snapshot is written
 // there, firmware is made there, and patches and cuts change what the next restoring reads.
-ghost use Rattle.std.specs.Prelude.{◌≤◌, length};
-
-use crate::row;
+use crate::memory::Memory;
 use crate::row::Row;
 use host::looks::flash_new;
 use host::snapshots::flash_read_snapshot;
-use std::num::wrapping_add_usize;
-
-const LOW_32: u64 = 0x1_0000_0000;
-
-// The formula's next number.
-fn next(number: u32, factor: u32, step: u32) -> u32 {
-    (((number as u64) * (factor as u64) + (step as u64)) % LOW_32) as u32
-}
-
-fn third_byte(number: u32) -> u8 {
-    (number / 65536 % 256) as u8
-}
 
 // Firmware by the row's formula: each byte is the third of a number, and the next number is this one times a factor plus a step.
-fn fill(buffer: &mut [u8], size: u32, seed: u32, factor: u32, step: u32) {
-    let mut number = seed;
-    let mut left = size;
-    let mut i: usize = 0;
-    while left > 0 && i < buffer.len() {
-        buffer[i] = third_byte(number);
-        number = next(number, factor, step);
-        left -= 1;
-        i += 1;
+fn fill(firmware: &mut [u8], row: &Row) {
+    let mut number = row.seed();
+    for byte in firmware {
+        *byte = number.to_le_bytes()[2];
+        number = number.wrapping_mul(row.factor()).wrapping_add(row.step());
     }
 }
 
-// So many bytes of the buffer, as many as it has of them.
-fn up_to(count: u32, buffer: &[u8]) -> usize
-    ensures { result ≤ length buffer.now }
-{
-    (count as usize).min(buffer.len())
-}
-
-pub fn new(
-    record: &mut [u8],
-    array: &mut [u8],
-    charges: &[u64],
-    buffer: &mut [u8],
-    row: &Row,
-) -> bool {
-    let size = row::size(row);
-    fill(
-        buffer,
-        size,
-        row::seed(row),
-        row::factor(row),
-        row::step(row),
+// A new array from so many bytes of firmware, as many as the buffer has of them.
+pub fn new(memory: &mut Memory, row: &Row) -> bool {
+    let end = (row.size() as usize).min(memory.buffer.len());
+    fill(&mut memory.buffer[..end], row);
+    let number = flash_new(
+        &memory.buffer[..end],
+        &mut memory.record,
+        &mut memory.array,
+        &memory.charges,
     );
-    let end = up_to(size, buffer);
-    let number = flash_new(&buffer[..end], record, array, charges);
-    number == row::value(row) as u32
+    number == u32::from(row.value())
 }
 
 // A state from the buffer's first bytes, as many as it has of them.
-pub fn restore(
-    record: &mut [u8],
-    array: &mut [u8],
-    charges: &mut [u64],
-    buffer: &[u8],
-    length: u32,
-    row: &Row,
-) -> bool {
-    let end = up_to(length, buffer);
+pub fn restore(memory: &mut Memory, row: &Row, length: u32) -> bool {
+    let end = (length as usize).min(memory.buffer.len());
     let number = flash_read_snapshot(
-        &buffer[..end],
-        record,
-        array,
-        charges,
-        row::seconds(row),
-        row::fraction(row),
+        &memory.buffer[..end],
+        &mut memory.record,
+        &mut memory.array,
+        &mut memory.charges,
+        row.seconds(),
+        row.fraction(),
     );
-    number == row::value(row) as u32
-}
-
-fn put(buffer: &mut [u8], at: usize, byte: u8) {
-    if at < buffer.len() {
-        buffer[at] = byte;
-    }
+    number == u32::from(row.value())
 }
 
 // Up to eight bytes of the buffer anew.
-pub fn patch(buffer: &mut [u8], row: &Row) {
-    let at = row::size(row) as usize;
-    let count = row::value(row) as usize;
-    let mut i: usize = 0;
-    while i < count && i < 8 {
-        put(buffer, wrapping_add_usize(at, i), row[24 + i]);
-        i += 1;
+pub fn patch(memory: &mut Memory, row: &Row) {
+    let at = row.size() as usize;
+    for (place, byte) in memory.buffer.iter_mut().skip(at).zip(row.patch()) {
+        *place = *byte;
     }
 }

@@ -7,138 +7,196 @@ pub const BYTES: usize = 64;
 // The last row has the list's sum after so many bytes.
 pub const SUMMED: usize = 60;
 
-pub type Row = [u8; BYTES];
+// The longest name of a group, and the longest patch.
+const NAME: usize = 62;
 
-// The letters.
-pub const GROUP: u8 = b'G';
+const PATCH: usize = 8;
 
-pub const NEW: u8 = b'N';
-
-pub const WRITE_REGISTER: u8 = b'W';
-
-pub const WRITE8: u8 = b'D';
-
-pub const READ8: u8 = b'B';
-
-pub const READ16: u8 = b'H';
-
-pub const PROTECT: u8 = b'P';
-
-pub const RESET: u8 = b'R';
-
-pub const POWER_OFF: u8 = b'O';
-
-pub const ENVIRONMENT: u8 = b'E';
-
-pub const LOOK: u8 = b'L';
-
-pub const REGISTER: u8 = b'Q';
-
-pub const PATCH: u8 = b'C';
-
-pub const CUT: u8 = b'K';
-
-pub const RESTORE: u8 = b'S';
-
-pub const END: u8 = b'Z';
-
-pub fn letter(row: &Row) -> u8 {
-    row[0]
+// What a row asks for.
+#[derive(Clone, Copy, Debug, PartialEq, Eq)]
+pub enum Kind {
+    Group,
+    New,
+    WriteRegister,
+    Write8,
+    Read8,
+    Read16,
+    Protect,
+    Reset,
+    PowerOff,
+    Environment,
+    Look,
+    Register,
+    Patch,
+    Cut,
+    Restore,
+    End,
 }
 
-// A value to write, a register's value, a mode, a bit, a refusal's number, or how many bytes a patch or a name has.
-pub fn value(row: &Row) -> u8 {
-    row[1]
+// A letter that no row begins with.
+#[derive(Clone, Copy, Debug, PartialEq, Eq)]
+pub struct UnknownLetter(pub u8);
+
+impl TryFrom<u8> for Kind {
+    type Error = UnknownLetter;
+
+    fn try_from(letter: u8) -> Result<Self, UnknownLetter> {
+        Ok(match letter {
+            b'G' => Kind::Group,
+            b'N' => Kind::New,
+            b'W' => Kind::WriteRegister,
+            b'D' => Kind::Write8,
+            b'B' => Kind::Read8,
+            b'H' => Kind::Read16,
+            b'P' => Kind::Protect,
+            b'R' => Kind::Reset,
+            b'O' => Kind::PowerOff,
+            b'E' => Kind::Environment,
+            b'L' => Kind::Look,
+            b'Q' => Kind::Register,
+            b'C' => Kind::Patch,
+            b'K' => Kind::Cut,
+            b'S' => Kind::Restore,
+            b'Z' => Kind::End,
+            _ => return Err(UnknownLetter(letter)),
+        })
+    }
 }
 
-pub fn address(row: &Row) -> u16 {
-    u16::get(row, 2)
-}
+#[derive(Drop)]
+pub struct Row(pub [u8; BYTES]);
 
-// The environment's flags.
-pub fn module(row: &Row) -> bool {
-    row[4] != 0
-}
+impl Row {
+    pub fn kind(&self) -> Result<Kind, UnknownLetter> {
+        Kind::try_from(self.0[0])
+    }
 
-pub fn oscillator(row: &Row) -> bool {
-    row[5] != 0
-}
+    // A value to write, a register's value, a mode, a bit, a refusal's number, or how many bytes a patch or a name has.
+    pub fn value(&self) -> u8 {
+        self.0[1]
+    }
 
-// How many bytes: the firmware's, or those of the snapshot that are read; or the place of a patch; or how many rows there are.
-pub fn size(row: &Row) -> u32 {
-    u32::get(row, 4)
-}
+    pub fn address(&self) -> u16 {
+        u16::get(&self.0, 2)
+    }
 
-pub fn seconds(row: &Row) -> u64 {
-    u64::get(row, 8)
-}
+    // The environment's flags.
+    pub fn module(&self) -> bool {
+        self.0[4] != 0
+    }
 
-pub fn fraction(row: &Row) -> u64 {
-    u64::get(row, 16)
-}
+    pub fn oscillator(&self) -> bool {
+        self.0[5] != 0
+    }
 
-// What a call answered: the value that was read, the number of event words, and their sum.
-pub fn answer(row: &Row) -> u16 {
-    u16::get(row, 28)
-}
+    // How many bytes: the firmware's, or those of the snapshot that are read; or the place of a patch; or how many rows there are.
+    pub fn size(&self) -> u32 {
+        u32::get(&self.0, 4)
+    }
 
-pub fn event_count(row: &Row) -> u16 {
-    u16::get(row, 6)
-}
+    pub fn seconds(&self) -> u64 {
+        u64::get(&self.0, 8)
+    }
 
-pub fn event_sum(row: &Row) -> u32 {
-    u32::get(row, 24)
-}
+    pub fn fraction(&self) -> u64 {
+        u64::get(&self.0, 16)
+    }
 
-// What a look saw.
-pub fn peek(row: &Row) -> u8 {
-    row[24]
-}
+    // What a call answered: the value that was read, the number of event words, and their sum.
+    pub fn answer(&self) -> u16 {
+        u16::get(&self.0, 28)
+    }
 
-pub fn blank(row: &Row) -> u8 {
-    row[25]
-}
+    pub fn event_count(&self) -> u16 {
+        u16::get(&self.0, 6)
+    }
 
-pub fn charge(row: &Row) -> u64 {
-    u64::get(row, 28)
-}
+    pub fn event_sum(&self) -> u32 {
+        u32::get(&self.0, 24)
+    }
 
-// The firmware's formula.
-pub fn seed(row: &Row) -> u32 {
-    u32::get(row, 24)
-}
+    // What a look saw.
+    pub fn peek(&self) -> u8 {
+        self.0[24]
+    }
 
-pub fn factor(row: &Row) -> u32 {
-    u32::get(row, 28)
-}
+    pub fn blank(&self) -> u8 {
+        self.0[25]
+    }
 
-pub fn step(row: &Row) -> u32 {
-    u32::get(row, 32)
-}
+    pub fn charge(&self) -> u64 {
+        u64::get(&self.0, 28)
+    }
 
-// What was left: the five registers, whether reading is normal and the state valid, the sum of the image, and length and sum of the
-// snapshot.
-pub fn normal(row: &Row) -> u8 {
-    row[41]
-}
+    // The firmware's formula.
+    pub fn seed(&self) -> u32 {
+        u32::get(&self.0, 24)
+    }
 
-pub fn valid(row: &Row) -> u8 {
-    row[42]
-}
+    pub fn factor(&self) -> u32 {
+        u32::get(&self.0, 28)
+    }
 
-pub fn image_sum(row: &Row) -> u32 {
-    u32::get(row, 44)
-}
+    pub fn step(&self) -> u32 {
+        u32::get(&self.0, 32)
+    }
 
-pub fn snapshot_length(row: &Row) -> u32 {
-    u32::get(row, 48)
-}
+    // What was left: the five registers, whether reading is normal and the state valid, the sum of the image, and length and sum of the
+    // snapshot.
+    pub fn flmcr1(&self) -> u8 {
+        self.0[36]
+    }
 
-pub fn snapshot_sum(row: &Row) -> u32 {
-    u32::get(row, 52)
-}
+    pub fn flmcr2(&self) -> u8 {
+        self.0[37]
+    }
 
-// The sum of all bytes of the list before it; only the last row has it.
-pub fn list_sum(row: &Row) -> u32 {
-    u32::get(row, SUMMED)
+    pub fn flpwcr(&self) -> u8 {
+        self.0[38]
+    }
+
+    pub fn ebr1(&self) -> u8 {
+        self.0[39]
+    }
+
+    pub fn fenr(&self) -> u8 {
+        self.0[40]
+    }
+
+    pub fn normal(&self) -> u8 {
+        self.0[41]
+    }
+
+    pub fn valid(&self) -> u8 {
+        self.0[42]
+    }
+
+    pub fn image_sum(&self) -> u32 {
+        u32::get(&self.0, 44)
+    }
+
+    pub fn snapshot_length(&self) -> u32 {
+        u32::get(&self.0, 48)
+    }
+
+    pub fn snapshot_sum(&self) -> u32 {
+        u32::get(&self.0, 52)
+    }
+
+    // The sum of all bytes of the list before it; only the last row has it.
+    pub fn list_sum(&self) -> u32 {
+        u32::get(&self.0, SUMMED)
+    }
+
+    // A group's name.
+    pub fn name(&self) -> &[u8] {
+        let end = 2 + usize::from(self.value()).min(NAME);
+        &self.0[2..end]
+    }
+
+    // The bytes of a patch.
+    pub fn patch(&self) -> &[u8] {
+        let end = 24 + usize::from(self.value()).min(PATCH);
+        &self.0[24..end]
+    }
 }

@@ -1,5 +1,4 @@
 // CRC-32 as zip files have it: polynomial EDB88320 hex, bits from the low end, begun and ended with all bits turned.
-ghost use Rattle.std.specs.Prelude.{◌<◌};
 
 // The sums of all bytes. It is made once and lent, since a constant would be built anew at each use.
 pub type Table = [u32; 256];
@@ -19,44 +18,29 @@ fn shifted(sum: u32) -> u32 {
 
 // The table's entry for a byte: eight bits later.
 fn entry(byte: u32) -> u32 {
-    let half = shifted(shifted(shifted(shifted(byte))));
-    shifted(shifted(shifted(shifted(half))))
+    (0..8).fold(byte, |sum, _| shifted(sum))
 }
 
 pub fn table() -> Table {
     let mut made = [0u32; 256];
-    let mut byte: u32 = 0;
-    let mut i: usize = 0;
-    while i < 256 {
-        made[i] = entry(byte);
-        byte = std::num::wrapping_add_u32(byte, 1);
-        i += 1;
+    for byte in 0..256u32 {
+        made[byte as usize] = entry(byte);
     }
     made
 }
 
-// Where in the table the next byte stands.
-fn slot(sum: u32, byte: u8) -> usize
-    ensures { result < 256 }
-{
-    ((sum ^ (byte as u32)) % 256) as usize
-}
-
 // A sum after one more byte.
 fn fed(table: &Table, sum: u32, byte: u8) -> u32 {
-    let i = slot(sum, byte);
-    table[i] ^ (sum / 256)
+    let low = sum.to_le_bytes()[0];
+    table[usize::from(low ^ byte)] ^ (sum / 256)
 }
 
 // A sum after the first bytes of a slice, as many as it has of them.
 pub fn fed_bytes(table: &Table, begun: u32, bytes: &[u8], count: usize) -> u32 {
-    let mut sum = begun;
-    let mut i: usize = 0;
-    while i < count && i < bytes.len() {
-        sum = fed(table, sum, bytes[i]);
-        i += 1;
-    }
-    sum
+    bytes
+        .iter()
+        .take(count)
+        .fold(begun, |sum, byte| fed(table, sum, *byte))
 }
 
 // A sum after the eight bytes of a word, the low one first.
@@ -71,13 +55,9 @@ pub fn of_bytes(table: &Table, bytes: &[u8], count: usize) -> u32 {
 
 // The number of the first words of a slice.
 pub fn of_words(table: &Table, words: &[u64], count: u64) -> u32 {
-    let mut sum = ALL_BITS;
-    let mut left = count;
-    let mut i: usize = 0;
-    while left > 0 && i < words.len() {
-        sum = fed_word(table, sum, words[i]);
-        left -= 1;
-        i += 1;
-    }
-    sum ^ ALL_BITS
+    words
+        .iter()
+        .take(count as usize)
+        .fold(ALL_BITS, |sum, word| fed_word(table, sum, *word))
+        ^ ALL_BITS
 }

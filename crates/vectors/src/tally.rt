@@ -1,12 +1,9 @@
 // What has been counted so far, and the lines that tell it.
-ghost use Rattle.std.specs.Prelude.{◌≤◌};
-
 use crate::row;
 use crate::row::Row;
 use crate::sum::{ALL_BITS, Table, fed_bytes};
-use std::num::wrapping_add_u64;
 
-#[derive(Clone, Copy)]
+#[derive(Clone, Copy, Default)]
 pub struct Tally {
     // Whether rows are still to come, and whether the last row was as it has to be.
     pub reading: bool,
@@ -24,141 +21,86 @@ pub struct Tally {
     pub length: u32,
 }
 
-pub fn begun() -> Tally {
-    Tally {
-        reading: true,
-        whole: false,
-        sum: ALL_BITS,
-        rows: 0,
-        groups: 0,
-        answers: 0,
-        differ: 0,
-        group_answers: 0,
-        group_differ: 0,
-        first: 0,
-        length: 0,
-    }
-}
-
-// One more row, and its bytes in the sum.
-pub fn counted(mut t: Tally, table: &Table, row: &Row) -> Tally {
-    t.sum = fed_bytes(table, t.sum, row, row::BYTES);
-    t.rows = wrapping_add_u64(t.rows, 1);
-    t
-}
-
-// One more answer.
-pub fn answered(mut t: Tally, same: bool) -> Tally {
-    t.group_answers = wrapping_add_u64(t.group_answers, 1);
-    if !same {
-        if t.group_differ == 0 {
-            t.first = t.rows;
+impl Tally {
+    pub fn begun() -> Tally {
+        Tally {
+            reading: true,
+            sum: ALL_BITS,
+            ..Tally::default()
         }
-        t.group_differ = wrapping_add_u64(t.group_differ, 1);
     }
-    t
-}
 
-// The list stops here: its end is missing or not as it has to be.
-pub fn stopped(mut t: Tally) -> Tally {
-    t.reading = false;
-    t
-}
-
-// The last row: it has the number of rows and the sum of all bytes before that sum.
-pub fn ended(mut t: Tally, table: &Table, row: &Row) -> Tally {
-    let sum = fed_bytes(table, t.sum, row, row::SUMMED) ^ ALL_BITS;
-    let rows = wrapping_add_u64(t.rows, 1);
-    t.reading = false;
-    t.sum = sum;
-    t.rows = rows;
-    t.whole = rows == row::size(row) as u64 && sum == row::list_sum(row);
-    t
-}
-
-fn say<R: Print>(rt: &R, text: &[u8]) {
-    let _ = rt.write_all(text);
-}
-
-fn say_number<R: Print>(rt: &R, number: u64) {
-    let _ = rt.print(number);
-}
-
-fn say_differences<R: Print>(rt: &R, differ: u64, first: u64) {
-    say(rt, b" answers, of which ");
-    say_number(rt, differ);
-    say(rt, b" differ, the first in row ");
-    say_number(rt, first);
-    say(rt, b"\n");
-}
-
-// The rest of a group's line; nothing before the first group.
-fn say_group<R: Print>(rt: &R, t: Tally) {
-    if t.groups == 0 {
-        return;
+    // One more row, and its bytes in the sum.
+    pub fn counted(&mut self, table: &Table, row: &Row) {
+        self.sum = fed_bytes(table, self.sum, &row.0, row::BYTES);
+        self.rows = self.rows.wrapping_add(1);
     }
-    say_number(rt, t.group_answers);
-    if t.group_differ == 0 {
-        say(rt, b" answers as recorded\n");
-    } else {
-        say_differences(rt, t.group_differ, t.first);
+
+    // One more answer.
+    pub fn answered(&mut self, same: bool) {
+        self.group_answers = self.group_answers.wrapping_add(1);
+        if !same {
+            if self.group_differ == 0 {
+                self.first = self.rows;
+            }
+            self.group_differ = self.group_differ.wrapping_add(1);
+        }
     }
-}
 
-// The group's answers go into the total.
-fn closed<R: Print>(rt: &R, mut t: Tally) -> Tally {
-    say_group(rt, t);
-    t.answers = wrapping_add_u64(t.answers, t.group_answers);
-    t.differ = wrapping_add_u64(t.differ, t.group_differ);
-    t.group_answers = 0;
-    t.group_differ = 0;
-    t
-}
-
-fn name_length(row: &Row) -> usize
-    ensures { result ≤ 62 }
-{
-    let length = row::value(row) as usize;
-    if length <= 62 { length } else { 62 }
-}
-
-// The next group: its line begins with its name.
-pub fn opened<R: Print>(rt: &R, t: Tally, row: &Row) -> Tally {
-    let mut next = closed(rt, t);
-    next.groups = wrapping_add_u64(next.groups, 1);
-    let end = 2 + name_length(row);
-    let bytes: &[u8] = row;
-    say(rt, &bytes[2..end]);
-    say(rt, b": ");
-    next
-}
-
-fn say_counts<R: Print>(rt: &R, t: Tally) {
-    say(rt, b"total: ");
-    say_number(rt, t.groups);
-    say(rt, b" groups, ");
-    say_number(rt, t.answers);
-    say(rt, b" answers, ");
-    say_number(rt, t.differ);
-    say(rt, b" differ; ");
-}
-
-fn say_list<R: Print>(rt: &R, t: Tally) {
-    say(rt, b"list of ");
-    say_number(rt, t.rows);
-    say(rt, b" rows, sum ");
-    let sum = t.sum;
-    let _ = print!(rt; "{sum:08x}");
-    if t.whole {
-        say(rt, b", whole\n");
-    } else {
-        say(rt, b", NOT WHOLE\n");
+    // The last row: it has the number of rows and the sum of all bytes before that sum.
+    pub fn ended(&mut self, table: &Table, row: &Row) {
+        self.reading = false;
+        self.sum = fed_bytes(table, self.sum, &row.0, row::SUMMED) ^ ALL_BITS;
+        self.rows = self.rows.wrapping_add(1);
+        self.whole = self.rows == u64::from(row.size()) && self.sum == row.list_sum();
     }
-}
 
-// The last lines.
-pub fn told<R: Print>(rt: &R, t: Tally) {
-    let all = closed(rt, t);
-    say_counts(rt, all);
-    say_list(rt, all);
+    // The rest of a group's line; nothing before the first group.
+    fn say_group<R: Print>(&self, rt: &R) {
+        if self.groups == 0 {
+            return;
+        }
+        let _ = if self.group_differ == 0 {
+            println!(rt; "{} answers as recorded", self.group_answers)
+        } else {
+            println!(rt;
+                "{} answers, of which {} differ, the first in row {}",
+                self.group_answers, self.group_differ, self.first
+            )
+        };
+    }
+
+    // The group's answers go into the total.
+    fn closed<R: Print>(&mut self, rt: &R) {
+        self.say_group(rt);
+        self.answers = self.answers.wrapping_add(self.group_answers);
+        self.differ = self.differ.wrapping_add(self.group_differ);
+        self.group_answers = 0;
+        self.group_differ = 0;
+    }
+
+    // The next group: its line begins with its name.
+    pub fn opened<R: Print>(&mut self, rt: &R, row: &Row) {
+        self.closed(rt);
+        self.groups = self.groups.wrapping_add(1);
+        let _ = rt.write_all(row.name());
+        let _ = print!(rt; ": ");
+    }
+
+    // The last lines.
+    pub fn told<R: Print>(&mut self, rt: &R) {
+        self.closed(rt);
+        let Tally {
+            sum,
+            rows,
+            groups,
+            answers,
+            differ,
+            ..
+        } = *self;
+        let whole = if self.whole { "whole" } else { "NOT WHOLE" };
+        let _ = println!(rt;
+            "total: {groups} groups, {answers} answers, {differ} differ; list of {rows} rows, sum {sum:08x}, {whole}"
+        );
+    }
 }
