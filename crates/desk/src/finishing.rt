@@ -26,19 +26,19 @@ fn files_drafted<R: Files, S: Print>(
         rt,
         snapshot,
         says,
-        memory.record,
-        memory.array,
-        memory.charges,
-        memory.buffer,
+        &memory.record,
+        &memory.array,
+        &memory.charges,
+        &mut memory.buffer,
     )?;
     picture_drafted(
         rt,
         picture,
         says,
-        memory.record,
-        memory.array,
-        memory.charges,
-        memory.buffer,
+        &memory.record,
+        &memory.array,
+        &memory.charges,
+        &mut memory.buffer,
         time,
     )
     .inspect_err(|_| discarded(rt, snapshot))
@@ -101,9 +101,9 @@ pub fn finish<R: Files + Print, S: Print>(
         counts_of(course),
         judged,
         options.map,
-        memory.record,
-        memory.array,
-        memory.charges,
+        &memory.record,
+        &memory.array,
+        &memory.charges,
         time,
     )
     .map_err(|why| {

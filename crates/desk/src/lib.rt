@@ -19,14 +19,14 @@ use telling::troubles::complain;
 pub use telling::troubles::word_in;
 use words::Word;
 
-// The memory that is lent to a run. Each array has a local of its own, as one struct of arrays might be copied on the stack.
+// The memory of a run.
 #[derive(Drop)]
-struct Memory<'a> {
-    record: &'a mut Record,
-    array: &'a mut Array,
-    charges: &'a mut Charges,
-    events: &'a mut Events,
-    buffer: &'a mut Buffer,
+struct Memory {
+    record: Record,
+    array: Array,
+    charges: Charges,
+    events: Events,
+    buffer: Buffer,
 }
 
 // The word that is given, empty where none is: an empty word names no file either.
@@ -49,28 +49,28 @@ fn serve<R: Files + Print + Eprint, S: Print>(
         image,
         snapshot,
         says,
-        memory.record,
-        memory.array,
-        memory.charges,
-        memory.buffer,
+        &mut memory.record,
+        &mut memory.array,
+        &mut memory.charges,
+        &mut memory.buffer,
     )?;
     let manner = Manner {
         events: options.events,
         go_on: options.go_on,
     };
     let path = word_in(args, options.history);
-    let course = begun(last_settling(memory.record));
+    let course = begun(last_settling(&memory.record));
     let after = read_history(
         rt,
         path,
         says,
         manner,
         course,
-        memory.record,
-        memory.array,
-        memory.charges,
-        memory.events,
-        memory.buffer,
+        &mut memory.record,
+        &mut memory.array,
+        &mut memory.charges,
+        &mut memory.events,
+        &mut memory.buffer,
     )
     .ok_or(Told)?;
     finish(rt, args, options, says, after, memory)
@@ -82,17 +82,12 @@ fn serve_in_memory<R: Files + Print + Eprint, S: Print>(
     options: Options,
     says: &S,
 ) -> Result<(), Told> {
-    let mut record = [0u8; RECORD_LEN];
-    let mut array = [0u8; FLASH_SIZE];
-    let mut charges = [0u64; CELLS];
-    let mut events = [0u64; EVENT_WORDS];
-    let mut buffer = [0u8; BUFFER];
     let mut memory = Memory {
-        record: &mut record,
-        array: &mut array,
-        charges: &mut charges,
-        events: &mut events,
-        buffer: &mut buffer,
+        record: [0; RECORD_LEN],
+        array: [0; FLASH_SIZE],
+        charges: [0; CELLS],
+        events: [0; EVENT_WORDS],
+        buffer: [0; BUFFER],
     };
     serve(rt, args, options, says, &mut memory)
 }
