@@ -1,9 +1,11 @@
 // The end of a run: the files that were asked for, the report, and last the verdict.
-use crate::given_in;
+use crate::{Memory, given_in};
 use course::Course;
 use options::Options;
+use slices::first;
 use std::rt::Files;
 use summary::{Counts, Judged, report};
+use telling::Told;
 use telling::files::{discarded, kept, picture_drafted, snapshot_drafted};
 use telling::saying::{say_report, say_unseen};
 use time::Time;
@@ -11,57 +13,61 @@ use time::Time;
 // No report is longer than 9,214 bytes (crates/summary/proofs/Fits.antt), of which 7,296 are a line for each legible page.
 const REPORT: usize = 16384;
 
-// Whether all files that were asked for are drafted. If not, none is.
+// All files that were asked for are drafted, or none is.
 fn files_drafted<R: Files, S: Print>(
     rt: &R,
     snapshot: &[u8],
     picture: &[u8],
     says: &S,
-    record: &[u8],
-    array: &[u8],
-    charges: &[u64],
-    buffer: &mut [u8],
+    memory: &mut Memory,
     time: Time,
-) -> bool {
-    if !snapshot_drafted(rt, snapshot, says, record, array, charges, buffer) {
-        return false;
-    }
-    if !picture_drafted(rt, picture, says, record, array, charges, buffer, time) {
-        discarded(rt, snapshot);
-        return false;
-    }
-    true
+) -> Result<(), Told> {
+    snapshot_drafted(
+        rt,
+        snapshot,
+        says,
+        &memory.record,
+        &memory.array,
+        &memory.charges,
+        &mut memory.buffer,
+    )?;
+    picture_drafted(
+        rt,
+        picture,
+        says,
+        &memory.record,
+        &memory.array,
+        &memory.charges,
+        &mut memory.buffer,
+        time,
+    )
+    .inspect_err(|_| discarded(rt, snapshot))
 }
 
-// Whether all of them have their names.
-fn files_kept<R: Files, S: Print>(rt: &R, snapshot: &[u8], picture: &[u8], says: &S) -> bool {
-    if !kept(rt, snapshot, says) {
-        discarded(rt, picture);
-        return false;
-    }
+// All of them take their names. Where the first can't, the other's draft is removed.
+fn files_kept<R: Files, S: Print>(
+    rt: &R,
+    snapshot: &[u8],
+    picture: &[u8],
+    says: &S,
+) -> Result<(), Told> {
+    kept(rt, snapshot, says).inspect_err(|_| discarded(rt, picture))?;
     kept(rt, picture, says)
 }
 
-// Whether the files that were asked for are written.
+// The files that were asked for are written.
 fn files_written<R: Files, S: Print>(
     rt: &R,
     args: &[u8],
     options: Options,
     says: &S,
-    record: &[u8],
-    array: &[u8],
-    charges: &[u64],
-    buffer: &mut [u8],
+    memory: &mut Memory,
     time: Time,
-) -> bool {
+) -> Result<(), Told> {
     let snapshot = given_in(args, options.snapshot);
     let picture = given_in(args, options.picture);
-    if files_drafted(
-        rt, snapshot, picture, says, record, array, charges, buffer, time,
-    ) {
-        return files_kept(rt, snapshot, picture, says);
-    }
-    false
+    files_drafted(rt, snapshot, picture, says, memory, time)?;
+    files_kept(rt, snapshot, picture, says)
 }
 
 // What is reported of a history that was read.
@@ -81,37 +87,30 @@ pub fn finish<R: Files + Print, S: Print>(
     options: Options,
     says: &S,
     course: Course,
-    record: &[u8],
-    array: &[u8],
-    charges: &[u64],
-    buffer: &mut [u8],
-) {
-    let at = options.at;
+    memory: &mut Memory,
+) -> Result<(), Told> {
     // The time that was asked for, or that of the last call made.
-    let time = at.unwrap_or(course.last);
+    let time = options.at.unwrap_or(course.last);
     let judged = Judged {
         first: options.first,
         pages: options.pages,
     };
-    let counts = counts_of(course);
     let mut text = [0u8; REPORT];
-    match report(
+    let end = report(
         &mut text,
-        counts,
+        counts_of(course),
         judged,
         options.map,
-        record,
-        array,
-        charges,
+        &memory.record,
+        &memory.array,
+        &memory.charges,
         time,
-    ) {
-        Ok(end) => {
-            if files_written(
-                rt, args, options, says, record, array, charges, buffer, time,
-            ) {
-                say_report(rt, &text, end);
-            }
-        }
-        Err(why) => say_unseen(says, why),
-    }
+    )
+    .map_err(|why| {
+        say_unseen(says, why);
+        Told
+    })?;
+    files_written(rt, args, options, says, memory, time)?;
+    say_report(rt, first(&text, end));
+    Ok(())
 }

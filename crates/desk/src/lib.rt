@@ -11,23 +11,27 @@ use course::{Manner, begun};
 use layout::RECORD_LEN;
 use options::{Asked, Options, options_of};
 use session::read_history;
-use slices::part;
 use std::rt::Files;
+use telling::Told;
 use telling::beginning::{begin, last_settling};
 use telling::saying::say_help;
 use telling::troubles::complain;
+pub use telling::troubles::word_in;
 use words::Word;
 
-pub fn word_in(args: &[u8], word: Word) -> &[u8] {
-    part(args, word.from, word.to)
+// The memory of a run.
+#[derive(Drop)]
+struct Memory {
+    record: Record,
+    array: Array,
+    charges: Charges,
+    events: Events,
+    buffer: Buffer,
 }
 
-// The word that is given, empty where none is.
+// The word that is given, empty where none is: an empty word names no file either.
 pub fn given_in(args: &[u8], word: Option<Word>) -> &[u8] {
-    match word {
-        Some(word) => word_in(args, word),
-        None => &args[..0],
-    }
+    word.map_or(&args[..0], |word| word_in(args, word))
 }
 
 // A run on lent memory.
@@ -36,31 +40,40 @@ fn serve<R: Files + Print + Eprint, S: Print>(
     args: &[u8],
     options: Options,
     says: &S,
-    record: &mut Record,
-    array: &mut Array,
-    charges: &mut Charges,
-    events: &mut Events,
-    buffer: &mut Buffer,
-) {
+    memory: &mut Memory,
+) -> Result<(), Told> {
     let image = given_in(args, options.image);
     let snapshot = given_in(args, options.restore);
-    if !begin(rt, image, snapshot, says, record, array, charges, buffer) {
-        return;
-    }
+    begin(
+        rt,
+        image,
+        snapshot,
+        says,
+        &mut memory.record,
+        &mut memory.array,
+        &mut memory.charges,
+        &mut memory.buffer,
+    )?;
     let manner = Manner {
         events: options.events,
         go_on: options.go_on,
     };
     let path = word_in(args, options.history);
-    let course = begun(last_settling(record));
-    let read = read_history(
-        rt, path, says, manner, course, record, array, charges, events, buffer,
-    );
-    if let Some(after) = read {
-        finish(
-            rt, args, options, says, after, record, array, charges, buffer,
-        );
-    }
+    let course = begun(last_settling(&memory.record));
+    let after = read_history(
+        rt,
+        path,
+        says,
+        manner,
+        course,
+        &mut memory.record,
+        &mut memory.array,
+        &mut memory.charges,
+        &mut memory.events,
+        &mut memory.buffer,
+    )
+    .ok_or(Told)?;
+    finish(rt, args, options, says, after, memory)
 }
 
 fn serve_in_memory<R: Files + Print + Eprint, S: Print>(
@@ -68,23 +81,15 @@ fn serve_in_memory<R: Files + Print + Eprint, S: Print>(
     args: &[u8],
     options: Options,
     says: &S,
-) {
-    let mut record = [0u8; RECORD_LEN];
-    let mut array = [0u8; FLASH_SIZE];
-    let mut charges = [0u64; CELLS];
-    let mut events = [0u64; EVENT_WORDS];
-    let mut buffer = [0u8; BUFFER];
-    serve(
-        rt,
-        args,
-        options,
-        says,
-        &mut record,
-        &mut array,
-        &mut charges,
-        &mut events,
-        &mut buffer,
-    );
+) -> Result<(), Told> {
+    let mut memory = Memory {
+        record: [0; RECORD_LEN],
+        array: [0; FLASH_SIZE],
+        charges: [0; CELLS],
+        events: [0; EVENT_WORDS],
+        buffer: [0; BUFFER],
+    };
+    serve(rt, args, options, says, &mut memory)
 }
 
 // A run of the program with some arguments, which come one after the other, a byte 0 after each. Complaints go to the
@@ -92,7 +97,9 @@ fn serve_in_memory<R: Files + Print + Eprint, S: Print>(
 pub fn work<R: Files + Print + Eprint, S: Print>(rt: &R, args: &[u8], says: &S) {
     match options_of(args) {
         Ok(Asked::Help) => say_help(rt),
-        Ok(Asked::Run(options)) => serve_in_memory(rt, args, options, says),
+        Ok(Asked::Run(options)) => {
+            let _ = serve_in_memory(rt, args, options, says);
+        }
         Err(trouble) => complain(says, trouble, args),
     }
 }

@@ -10,13 +10,19 @@ use std::str::from_utf8;
 use std::{fs, io};
 use text::putting::put_text;
 
-// Room for a draft's name. A path has at most 4,095 bytes.
-const ROOM: usize = 4096;
+// Room for a path, which has at most 4,095 bytes.
+pub const PATH_ROOM: usize = 4096;
 
-// A draft's name, and how long it is. One that is cut off is as long as the slice, which no path is.
-fn name_beside(path: &[u8], name: &mut [u8]) -> usize {
-    let end = put_text(name, 0, path);
-    put_text(name, end, b".part")
+// A path as text. One that is none names no file.
+fn name_of(path: &[u8]) -> io::Result<&str> {
+    from_utf8(path).map_err(|_| io::Error::from(ErrorKind::InvalidFilename))
+}
+
+// A draft's name, put into a slice. One that is cut off is as long as the slice, which no path is.
+fn name_beside<'a>(path: &[u8], room: &'a mut [u8]) -> io::Result<&'a str> {
+    let end = put_text(room, 0, path);
+    let end = put_text(room, end, b".part");
+    name_of(first(room, end))
 }
 
 // Gives a file its own length, which only a plain one can be given, and no device or pipe, whose name must stay.
@@ -25,68 +31,50 @@ fn keep_length<F: Seek + OpenFile>(file: &mut F) -> io::Result<()> {
     file.set_len(length)
 }
 
-// Whether a name is free, or that of a plain file that may be written.
-fn may_take<R: Files>(rt: &R, path: &str) -> bool {
+// Fails unless a name is free, or that of a plain file that may be written.
+fn may_take<R: Files>(rt: &R, path: &str) -> io::Result<()> {
     match OpenOptions::new().read(true).write(true).open(rt, path) {
-        Ok(mut file) => keep_length(&mut file).is_ok(),
-        Err(e) => e.kind() == ErrorKind::NotFound,
+        Ok(mut file) => keep_length(&mut file),
+        Err(e) if e.kind() == ErrorKind::NotFound => Ok(()),
+        Err(e) => Err(e),
     }
 }
 
-// Writes both parts to a file, also on its disk, since nothing is told of a failure to close it.
-fn write<F: Write + OpenFile>(file: &mut F, head: &[u8], rest: &[u8]) -> io::Result<()> {
+// Writes both parts to a file, also on its disk, since nothing is told of a failure to close it. It is closed here, also on an error.
+fn write<F: Write + OpenFile + Drop>(mut file: F, head: &[u8], rest: &[u8]) -> io::Result<()> {
     file.write_all(head)?;
     file.write_all(rest)?;
     file.sync_all()
 }
 
-// Makes a file of two parts, where there is none of that name. On false there is none of this.
-fn made<R: Files>(rt: &R, name: &str, head: &[u8], rest: &[u8]) -> bool {
-    let mut whole = false;
-    match OpenOptions::new()
+// Makes a file of two parts, where there is none of that name. On an error there is none of this.
+fn made<R: Files>(rt: &R, name: &str, head: &[u8], rest: &[u8]) -> io::Result<()> {
+    let file = OpenOptions::new()
         .write(true)
         .create_new(true)
-        .open(rt, name)
-    {
-        Ok(mut file) => whole = write(&mut file, head, rest).is_ok(),
-        Err(_) => return false,
-    }
-    if !whole {
+        .open(rt, name)?;
+    write(file, head, rest).inspect_err(|_| {
         let _ = fs::remove_file(rt, name);
-    }
-    whole
+    })
 }
 
-// Makes a draft of two parts. On false there is none.
-pub fn draft<R: Files>(rt: &R, path: &[u8], head: &[u8], rest: &[u8]) -> bool {
-    let Ok(place) = from_utf8(path) else {
-        return false;
-    };
-    if !may_take(rt, place) {
-        return false;
-    }
-    let mut name = [0u8; ROOM];
-    let n = name_beside(path, &mut name);
-    match from_utf8(first(&name, n)) {
-        Ok(beside) => made(rt, beside, head, rest),
-        Err(_) => false,
-    }
+// Makes a draft of two parts. On an error there is none.
+pub fn draft<R: Files>(rt: &R, path: &[u8], head: &[u8], rest: &[u8]) -> io::Result<()> {
+    may_take(rt, name_of(path)?)?;
+    let mut room = [0u8; PATH_ROOM];
+    made(rt, name_beside(path, &mut room)?, head, rest)
 }
 
 // A draft takes its name.
-pub fn keep<R: Files>(rt: &R, path: &[u8]) -> bool {
-    let mut name = [0u8; ROOM];
-    let n = name_beside(path, &mut name);
-    match (from_utf8(first(&name, n)), from_utf8(path)) {
-        (Ok(beside), Ok(place)) => fs::rename(rt, beside, place).is_ok(),
-        _ => false,
-    }
+pub fn keep<R: Files>(rt: &R, path: &[u8]) -> io::Result<()> {
+    let mut room = [0u8; PATH_ROOM];
+    fs::rename(rt, name_beside(path, &mut room)?, name_of(path)?)
 }
 
+// A draft is removed.
 pub fn discard<R: Files>(rt: &R, path: &[u8]) {
-    let mut name = [0u8; ROOM];
-    let n = name_beside(path, &mut name);
-    if let Ok(beside) = from_utf8(first(&name, n)) {
+    let mut room = [0u8; PATH_ROOM];
+    if let Ok(beside) = name_beside(path, &mut room) {
         let _ = fs::remove_file(rt, beside);
     }
 }

@@ -1,4 +1,5 @@
 // A picture that a run wrote: its length, and its pixels counted and summed up.
+use cell::CELLS;
 use course::more;
 use slices::first;
 use std::fs;
@@ -9,22 +10,16 @@ use text::say;
 // The bytes of a picture: its head, then one for each cell.
 const HEAD: usize = 15;
 
-const CELLS: usize = 393216;
-
 #[derive(Clone, Copy)]
 struct Pixels {
     bright: u64,
     sum: u64,
 }
 
-fn bright(shade: u8) -> u64 {
-    if 0 < shade { 1 } else { 0 }
-}
-
 fn with_pixel(pixels: Pixels, shade: u8) -> Pixels {
     Pixels {
-        bright: more(pixels.bright, bright(shade)),
-        sum: more(pixels.sum, shade as u64),
+        bright: more(pixels.bright, u64::from(0 < shade)),
+        sum: more(pixels.sum, u64::from(shade)),
     }
 }
 

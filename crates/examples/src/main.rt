@@ -26,12 +26,11 @@ fn run<R: Files + Print + Eprint>(rt: &R, args: &[u8]) {
     let _ = rt.write_all(b"\n");
 }
 
-// Each line of the list is a run; each word in it has a byte 0 after it.
+// Each line of the list is a run; each word in it has a byte 0 after it. Lines are parted by a line break, so the last one here, which is
+// empty, is a run with no arguments.
 fn run_all<R: Files + Print + Eprint>(rt: &R, runs: &[u8]) {
     for line in runs.split(|b| *b == b'\n') {
-        if !line.is_empty() {
-            run(rt, line);
-        }
+        run(rt, line);
     }
 }
 
@@ -65,7 +64,6 @@ fn main(rt: HostRuntime) {
       --from\00400\0fresh.history\0\n\
       --from\0C000\0--to\000FF\0fresh.history\0\n\
       --maps\0fresh.history\0\n\
-      fresh.history\0wiped.history\0\n\
-      \n",
+      fresh.history\0wiped.history\0\n",
     );
 }

@@ -1,4 +1,5 @@
 // What the history begins with: an empty flash, an image, or a snapshot.
+use crate::Told;
 use crate::reading::{open, read_full};
 use crate::saying::{say_image_length, say_no_snapshot, say_not_opened};
 use cell::FLASH_SIZE;
@@ -9,21 +10,34 @@ use slices::first;
 use std::rt::Files;
 use time::Time;
 
-// Every byte FF.
-fn begin_empty(record: &mut [u8], array: &mut [u8], charges: &[u64]) -> bool {
-    let image = [0xFFu8; FLASH_SIZE];
-    make(&image, record, array, charges.len()).is_ok()
+// A new array. It is refused only where lent memory has not its lengths, which a run's has: that alone is not said.
+fn begin_with(
+    firmware: &[u8],
+    record: &mut [u8],
+    array: &mut [u8],
+    charges: &[u64],
+) -> Result<(), Told> {
+    make(firmware, record, array, charges.len()).map_err(|_| Told)
 }
 
-// A file in the buffer: how many bytes, unless it can't be opened, which is then said.
-fn load<R: Files, S: Print>(rt: &R, path: &[u8], says: &S, buffer: &mut [u8]) -> Option<usize> {
-    match open(rt, path) {
-        Some(mut file) => Some(read_full(&mut file, buffer)),
-        None => {
-            say_not_opened(says, path);
-            None
-        }
-    }
+// Every byte FF.
+fn begin_empty(record: &mut [u8], array: &mut [u8], charges: &[u64]) -> Result<(), Told> {
+    begin_with(&[0xFF; FLASH_SIZE], record, array, charges)
+}
+
+// A file's bytes, in the buffer, unless it can't be opened, which is then said.
+fn load<'a, R: Files, S: Print>(
+    rt: &R,
+    path: &[u8],
+    says: &S,
+    buffer: &'a mut [u8],
+) -> Result<&'a [u8], Told> {
+    let Some(mut file) = open(rt, path) else {
+        say_not_opened(says, path);
+        return Err(Told);
+    };
+    let n = read_full(&mut file, buffer);
+    Ok(first(buffer, n))
 }
 
 fn begin_from_image<R: Files, S: Print>(
@@ -34,17 +48,13 @@ fn begin_from_image<R: Files, S: Print>(
     array: &mut [u8],
     charges: &[u64],
     buffer: &mut [u8],
-) -> bool {
-    match load(rt, path, says, buffer) {
-        None => false,
-        Some(n) => {
-            if n != FLASH_SIZE {
-                say_image_length(says, path, n as u64);
-                return false;
-            }
-            make(first(buffer, n), record, array, charges.len()).is_ok()
-        }
+) -> Result<(), Told> {
+    let image = load(rt, path, says, buffer)?;
+    if image.len() != FLASH_SIZE {
+        say_image_length(says, path, image.len() as u64);
+        return Err(Told);
     }
+    begin_with(image, record, array, charges)
 }
 
 // A snapshot is taken at the last instant that is accepted. Each call then has to come after its last settling.
@@ -56,22 +66,16 @@ fn begin_from_snapshot<R: Files, S: Print>(
     array: &mut [u8],
     charges: &mut [u64],
     buffer: &mut [u8],
-) -> bool {
-    match load(rt, path, says, buffer) {
-        None => false,
-        Some(n) => {
-            let last = Time(u64::MAX - 1, u64::MAX);
-            match read_snapshot(first(buffer, n), record, array, charges, last) {
-                Ok(()) => true,
-                Err(refusal) => {
-                    say_no_snapshot(says, path, refusal);
-                    false
-                }
-            }
-        }
-    }
+) -> Result<(), Told> {
+    let snapshot = load(rt, path, says, buffer)?;
+    let last = Time(u64::MAX - 1, u64::MAX);
+    read_snapshot(snapshot, record, array, charges, last).map_err(|refusal| {
+        say_no_snapshot(says, path, refusal);
+        Told
+    })
 }
 
+// An image or a snapshot is begun with where one is named.
 pub fn begin<R: Files, S: Print>(
     rt: &R,
     image: &[u8],
@@ -81,14 +85,14 @@ pub fn begin<R: Files, S: Print>(
     array: &mut [u8],
     charges: &mut [u64],
     buffer: &mut [u8],
-) -> bool {
+) -> Result<(), Told> {
     if !image.is_empty() {
-        return begin_from_image(rt, image, says, record, array, charges, buffer);
+        begin_from_image(rt, image, says, record, array, charges, buffer)
+    } else if !snapshot.is_empty() {
+        begin_from_snapshot(rt, snapshot, says, record, array, charges, buffer)
+    } else {
+        begin_empty(record, array, charges)
     }
-    if !snapshot.is_empty() {
-        return begin_from_snapshot(rt, snapshot, says, record, array, charges, buffer);
-    }
-    begin_empty(record, array, charges)
 }
 
 // The last settling of what the history begins with: the verdict's time where no call is made.

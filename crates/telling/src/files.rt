@@ -1,4 +1,5 @@
 // The files that a run writes: the state that it reached, and a picture of all cells. Both are drafts until each is whole.
+use crate::Told;
 use crate::saying::say_not_written;
 use cell::CELLS;
 use drafts::{discard, draft, keep};
@@ -12,16 +13,24 @@ use time::Time;
 // Room for a picture's head.
 const HEAD: usize = 32;
 
-// A file that is asked for is drafted, or it is said that it can't be written.
-fn drafted<R: Files, S: Print>(rt: &R, path: &[u8], says: &S, head: &[u8], rest: &[u8]) -> bool {
-    let whole = draft(rt, path, head, rest);
-    if !whole {
-        say_not_written(says, path);
-    }
-    whole
+// It is said that a file can't be written.
+fn unwritten<S: Print>(says: &S, path: &[u8]) -> Told {
+    say_not_written(says, path);
+    Told
 }
 
-// Whether the snapshot is drafted, if one is asked for.
+// A file that is asked for is drafted, or it is said that it can't be written.
+fn drafted<R: Files, S: Print>(
+    rt: &R,
+    path: &[u8],
+    says: &S,
+    head: &[u8],
+    rest: &[u8],
+) -> Result<(), Told> {
+    draft(rt, path, head, rest).map_err(|_| unwritten(says, path))
+}
+
+// The snapshot is drafted, if one is asked for.
 pub fn snapshot_drafted<R: Files, S: Print>(
     rt: &R,
     path: &[u8],
@@ -30,18 +39,16 @@ pub fn snapshot_drafted<R: Files, S: Print>(
     array: &[u8],
     charges: &[u64],
     buffer: &mut [u8],
-) -> bool {
+) -> Result<(), Told> {
     if path.is_empty() {
-        return true;
+        return Ok(());
     }
-    let Ok(length) = write_snapshot(record, array, charges, buffer) else {
-        say_not_written(says, path);
-        return false;
-    };
+    let length = write_snapshot(record, array, charges, buffer)
+        .map_err(|_| unwritten(says, path))?;
     drafted(rt, path, says, b"", first(buffer, length))
 }
 
-// Whether the picture is drafted, if one is asked for.
+// The picture is drafted, if one is asked for.
 pub fn picture_drafted<R: Files, S: Print>(
     rt: &R,
     path: &[u8],
@@ -51,30 +58,26 @@ pub fn picture_drafted<R: Files, S: Print>(
     charges: &[u64],
     buffer: &mut [u8],
     time: Time,
-) -> bool {
+) -> Result<(), Told> {
     if path.is_empty() {
-        return true;
+        return Ok(());
     }
-    if see_shades(record, array, charges, time, buffer).is_err() {
-        say_not_written(says, path);
-        return false;
-    }
+    see_shades(record, array, charges, time, buffer).map_err(|_| unwritten(says, path))?;
     let mut head = [0u8; HEAD];
     let n = picture_head(&mut head, 0);
     drafted(rt, path, says, first(&head, n), first(buffer, CELLS))
 }
 
-// A file that was asked for takes its name.
-pub fn kept<R: Files, S: Print>(rt: &R, path: &[u8], says: &S) -> bool {
+// A file that was asked for takes its name, or its draft is removed.
+pub fn kept<R: Files, S: Print>(rt: &R, path: &[u8], says: &S) -> Result<(), Told> {
     if path.is_empty() {
-        return true;
+        return Ok(());
     }
-    if keep(rt, path) {
-        return true;
-    }
-    say_not_written(says, path);
-    discard(rt, path);
-    false
+    keep(rt, path).map_err(|_| {
+        let told = unwritten(says, path);
+        discard(rt, path);
+        told
+    })
 }
 
 // A draft of a file that was asked for is removed.

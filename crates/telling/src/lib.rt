@@ -7,3 +7,7 @@ pub mod files;
 pub mod reading;
 pub mod saying;
 pub mod troubles;
+
+// Why a run can't go on was said.
+#[derive(Clone, Copy, Debug, PartialEq, Eq)]
+pub struct Told;

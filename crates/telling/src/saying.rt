@@ -12,7 +12,7 @@ use text::fill;
 const ROOM: usize = 4096;
 
 // Writes what a function puts at the start of a slice and answers the end of. Whether it could be written makes no difference.
-fn say<S: Print, F: FnOnce(&mut [u8]) -> usize>(to: &S, put: F)
+pub(crate) fn say<S: Print, F: FnOnce(&mut [u8]) -> usize>(to: &S, put: F)
     requires { F.IsAlwaysCallable put }
 {
     let mut text = [0u8; ROOM];
@@ -65,9 +65,8 @@ pub fn say_help<R: Print>(rt: &R) {
     say(rt, |text| help(text, 0));
 }
 
-// The report, which ends at a place of its text.
-pub fn say_report<R: Print>(rt: &R, text: &[u8], end: usize) {
-    let _ = rt.write_all(first(text, end));
+pub fn say_report<R: Print>(rt: &R, report: &[u8]) {
+    let _ = rt.write_all(report);
 }
 
 // ---- files

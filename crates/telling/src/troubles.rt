@@ -1,16 +1,16 @@
 // What is wrong with the program's arguments.
+use crate::saying;
 use notices::{
     ends_early, no_address, no_block, no_history, no_option, no_time, no_word_after,
     second_history, two_ranges,
 };
 use options::Trouble;
-use slices::{first, part};
+use slices::part;
 use text::{say, say_word};
 use words::Word;
 
-const ROOM: usize = 4096;
-
-fn word_in(args: &[u8], word: Word) -> &[u8] {
+// A word of the arguments, none where there are no such places.
+pub fn word_in(args: &[u8], word: Word) -> &[u8] {
     part(args, word.from, word.to)
 }
 
@@ -39,7 +39,5 @@ fn put_trouble(out: &mut [u8], trouble: Trouble, args: &[u8]) -> usize {
 
 // What is wrong with the arguments is said.
 pub fn complain<S: Print>(to: &S, trouble: Trouble, args: &[u8]) {
-    let mut text = [0u8; ROOM];
-    let n = put_trouble(&mut text, trouble, args);
-    let _ = to.write_all(first(&text, n));
+    saying::say(to, |text| put_trouble(text, trouble, args));
 }
