@@ -70,7 +70,7 @@ fn files_written<R: Files, S: Print>(
     files_kept(rt, snapshot, picture, says)
 }
 
-// What is reported of a history that was read.
+// What is reported of a history that was read. No `From`, since both types are of crates below.
 fn counts_of(course: Course) -> Counts {
     Counts {
         made: course.made,

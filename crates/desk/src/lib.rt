@@ -19,7 +19,7 @@ use telling::troubles::complain;
 pub use telling::troubles::word_in;
 use words::Word;
 
-// The memory of a run.
+// The memory of a run. What is called with it takes the parts.
 #[derive(Drop)]
 struct Memory {
     record: Record,
@@ -28,6 +28,15 @@ struct Memory {
     events: Events,
     buffer: Buffer,
 }
+
+// A constant, since the arrays of a literal are first made beside the struct, and both have no room on a stack of 8 MB.
+const EMPTY: Memory = Memory {
+    record: [0; RECORD_LEN],
+    array: [0; FLASH_SIZE],
+    charges: [0; CELLS],
+    events: [0; EVENT_WORDS],
+    buffer: [0; BUFFER],
+};
 
 // The word that is given, empty where none is: an empty word names no file either.
 pub fn given_in(args: &[u8], word: Option<Word>) -> &[u8] {
@@ -82,18 +91,12 @@ fn serve_in_memory<R: Files + Print + Eprint, S: Print>(
     options: Options,
     says: &S,
 ) -> Result<(), Told> {
-    let mut memory = Memory {
-        record: [0; RECORD_LEN],
-        array: [0; FLASH_SIZE],
-        charges: [0; CELLS],
-        events: [0; EVENT_WORDS],
-        buffer: [0; BUFFER],
-    };
+    let mut memory = EMPTY;
     serve(rt, args, options, says, &mut memory)
 }
 
 // A run of the program with some arguments, which come one after the other, a byte 0 after each. Complaints go to the
-// writer that is lent for them.
+// writer that is lent for them. Where a run ends early nothing is left to say.
 pub fn work<R: Files + Print + Eprint, S: Print>(rt: &R, args: &[u8], says: &S) {
     match options_of(args) {
         Ok(Asked::Help) => say_help(rt),

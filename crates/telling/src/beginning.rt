@@ -75,7 +75,8 @@ fn begin_from_snapshot<R: Files, S: Print>(
     })
 }
 
-// An image or a snapshot is begun with where one is named.
+// An image or a snapshot is begun with where one is named. Memory comes as slices one by one, as the crates below take it: each function
+// would take a struct of them apart again.
 pub fn begin<R: Files, S: Print>(
     rt: &R,
     image: &[u8],
