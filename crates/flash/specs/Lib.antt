@@ -1,2 +1,3 @@
 pub mod Chip
 pub mod Looking
+pub mod Views

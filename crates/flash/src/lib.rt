@@ -2,6 +2,8 @@
 // words is in the definitions; the functions are in the crates above.
 #![tactic(auto)]
 
+pub mod held;
+
 use cell::PAGES;
 use registers::Registers;
 use time::Time;

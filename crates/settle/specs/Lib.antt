@@ -1,2 +1,3 @@
 pub mod Pages
 pub mod Settling
+pub mod Views

@@ -2,4 +2,6 @@
 // settle over lent memory is the crate `settling`.
 #![tactic(auto)]
 
+pub mod cells;
+pub mod exposure;
 pub mod pages;

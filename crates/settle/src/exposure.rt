@@ -1,0 +1,55 @@
+// What a settle exposes.
+ghost use Rattle.std.specs.Prelude.{◌<◌};
+ghost use Rattle.time.specs.Raw.{span};
+
+use cell::PAGE;
+use registers::Pulse;
+use time::{Duration, Time};
+
+// An exposure of a pulse's pages, with the latch that it goes by, for a length of time that is not 0.
+#[derive(Clone, Copy)]
+pub struct Exposure<'a> {
+    pub pulse: Pulse,
+    pub latch: &'a [u8; PAGE],
+    pub length: Duration,
+    pub ghost lasts: { 0 < span length },
+}
+
+impl Exposure<'_> {
+    ghost use Rattle.std.specs.Prelude.{◌≡◌, List, ℕ};
+    ghost use Rattle.settle.specs.Pages.{Cells};
+    ghost use Rattle.settle.specs.Settling.{covers, settled_by};
+    ghost use Rattle.settle.specs.Views.{exposed};
+
+    // The exposure of a settle at a time, from a last settling on, and none where nothing changes.
+    pub fn at<'a>(
+        pulse: Option<Pulse>,
+        latch: &'a [u8; PAGE],
+        since: Time,
+        time: Time,
+    ) -> Option<Exposure<'a>>
+        ensures { (c : Cells) → settled_by pulse latch.now since time c ≡ exposed result c }
+    {
+        let pulse = pulse?;
+        let ready = pulse.ready;
+        let length = time.since(since.max(ready));
+        if length.is_zero() {
+            return None;
+        }
+        Some(Exposure {
+            pulse,
+            latch,
+            length,
+        })
+    }
+
+    // Whether it reaches a page.
+    #[tactic(auto, unfolding(crate::specs::Settling::covers))]
+    pub fn covers(&self, page: usize) -> bool
+        ensures { result ≡ covers self.now.pulse page }
+    {
+        let first = usize::from(self.pulse.first);
+        let end = first + usize::from(self.pulse.pages);
+        (first <= page) & (page < end)
+    }
+}
