@@ -1,3 +1,4 @@
 pub mod Memory
 pub mod Asked
 pub mod Looked
+pub mod Views

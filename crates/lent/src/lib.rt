@@ -4,6 +4,7 @@
 
 pub mod checking;
 pub mod making;
+pub mod memory;
 pub mod opening;
 
 // The calls of the ledger as a host asks for them, with their arguments but the time: a mode is a number here, and may be none.
