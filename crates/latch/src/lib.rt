@@ -6,8 +6,9 @@ ghost use Rattle.time.specs.Raw.{BeforeLastSecond};
 ghost use Rattle.registers.specs.Latch.{takes_data, latched, sense_pending, data_taken, data_write, write8};
 
 use bits::{EV, PV, SWE, has};
+use cell::PAGE_BYTES;
 use control::{PendingSense, Supply};
-use registers::{PAGE_BYTES, Registers};
+use registers::Registers;
 use time::Time;
 use waits::SENSE;
 
