@@ -2,16 +2,16 @@
 #![tactic(auto)]
 
 ghost use Rattle.std.specs.Prelude.{◌≡◌};
-ghost use Rattle.time.specs.Raw.{BeforeLastSecond};
 ghost use Rattle.control.specs.Bits.{control_value};
 ghost use Rattle.registers.specs.Access.{register, control_set, register_set, write_register};
 
 use bits::{ESU, FENR, FLAG, PSU, SWE, control_value, erase_after, erase_value, falls, flag, has};
 use control::verify::pending_after;
 use registers::Registers;
-use time::Time;
+use time::accepted::Accepted;
 use waits::{ESU_RISE, PSU_RISE, SWE_RISE, recovery_after, renewed, verify_ready_after};
 
+#[tactic(auto, unfolding(registers::specs::Access::register))]
 pub fn register(registers: Registers, address: u16) -> u8
     ensures { result ≡ register address registers }
 {
@@ -32,9 +32,9 @@ pub fn register(registers: Registers, address: u16) -> u8
 }
 
 // Control becomes `new`, with all that follows from it.
-fn control_set(registers: Registers, new: u8, now: Time) -> Registers
-    requires { BeforeLastSecond now }
-    ensures { result ≡ control_set new now registers }
+#[tactic(auto, unfolding(registers::specs::Access::control_set))]
+fn control_set(registers: Registers, new: u8, now: Accepted) -> Registers
+    ensures { result ≡ control_set new now.time registers }
 {
     let old = registers.control;
     let recovery = recovery_after(old, new, now, registers.recovery);
@@ -59,17 +59,16 @@ fn control_set(registers: Registers, new: u8, now: Time) -> Registers
 }
 
 // Writing F020.
-pub fn write_control(registers: Registers, value: u8, now: Time) -> Registers
-    requires { BeforeLastSecond now }
-    ensures { result ≡ control_set (control_value value) now registers }
+pub fn write_control(registers: Registers, value: u8, now: Accepted) -> Registers
+    ensures { result ≡ control_set (control_value value) now.time registers }
 {
     control_set(registers, control_value(value), now)
 }
 
 // A write to a register other than F02B, once it has settled.
-fn register_set(registers: Registers, address: u16, value: u8, now: Time) -> Registers
-    requires { BeforeLastSecond now }
-    ensures { result ≡ register_set address value now registers }
+#[tactic(auto, unfolding(registers::specs::Access::register_set))]
+fn register_set(registers: Registers, address: u16, value: u8, now: Accepted) -> Registers
+    ensures { result ≡ register_set address value now.time registers }
 {
     match address {
         0xf020 => write_control(registers, value, now),
@@ -90,9 +89,9 @@ fn register_set(registers: Registers, address: u16, value: u8, now: Time) -> Reg
     }
 }
 
-pub fn write_register(registers: Registers, address: u16, value: u8, now: Time) -> Registers
-    requires { BeforeLastSecond now }
-    ensures { result ≡ write_register address value now registers }
+#[tactic(auto, unfolding(registers::specs::Access::write_register))]
+pub fn write_register(registers: Registers, address: u16, value: u8, now: Accepted) -> Registers
+    ensures { result ≡ write_register address value now.time registers }
 {
     if address == FENR {
         let mut r = registers;
@@ -100,7 +99,7 @@ pub fn write_register(registers: Registers, address: u16, value: u8, now: Time) 
         return r;
     }
     if registers.enabled {
-        return register_set(registers.settled(now), address, value, now);
+        return register_set(registers.settled(now.time), address, value, now);
     }
     registers
 }

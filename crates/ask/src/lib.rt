@@ -26,8 +26,8 @@ pub fn ask(
     ensures { Told (outcome request time events.old (record { bytes = «record».old; array = array.old; charges = charges.old })) (told result) (count_of result) «record».new array.new charges.new events.new × (value_of result ≡ (outcome request time events.old (record { bytes = «record».old; array = array.old; charges = charges.old })).value) × (value_of result < answer_limit (call_of request)) }
 {
     let flash = opened(record, array, charges)?;
-    call_refusal(flash, request, time, events.len())?;
-    let done = perform(flash, array, charges, events, call_of(request), time);
+    let now = call_refusal(flash, request, time, events.len())?;
+    let done = perform(flash, array, charges, events, call_of(request), now);
     write(record, done.flash);
     Ok(Answer {
         value: done.value,

@@ -71,18 +71,11 @@ pub fn erase_after(new: u8, erase: u8) -> u8
 }
 
 // What a write to F023 stores: one bit or none.
+#[tactic(auto, using(crate::proofs::Count::counted))]
 pub fn erase_value(v: u8) -> u8
     ensures { result ≡ erase_value v }
 {
-    let count = v / 1 % 2
-        + v / 2 % 2
-        + v / 4 % 2
-        + v / 8 % 2
-        + v / 16 % 2
-        + v / 32 % 2
-        + v / 64 % 2
-        + v / 128 % 2;
-    if count <= 1 { v } else { 0 }
+    if v.count_ones() <= 1 { v } else { 0 }
 }
 
 pub fn setup(direction: Direction) -> u8

@@ -2,7 +2,6 @@
 #![tactic(auto)]
 
 ghost use Rattle.std.specs.Prelude.{◌≡◌};
-ghost use Rattle.time.specs.Raw.{BeforeLastSecond};
 ghost use Rattle.registers.specs.Calls.{next, settles, writes_control, ending};
 
 use access::write_register;
@@ -12,23 +11,16 @@ use environment::{environment, power_off, reset, unchanged};
 use latch::write8;
 use registers::{Call, Ending, Registers};
 use time::Time;
+use time::accepted::Accepted;
 
 fn writes_control(call: Call) -> bool
     ensures { result ≡ writes_control call }
 {
-    match call {
-        Call::WriteRegister(a, _) => a == FLMCR1,
-        Call::Write8(_, _) => false,
-        Call::Read8(_) => false,
-        Call::Read16(_) => false,
-        Call::Protect => false,
-        Call::Reset => false,
-        Call::PowerOff => false,
-        Call::Environment(_, _, _) => false,
-    }
+    matches!(call, Call::WriteRegister(address, _) if address == FLMCR1)
 }
 
 // How a pulse that a call changed has ended; `control` is as the call left it.
+#[tactic(auto, unfolding(registers::specs::Calls::ending))]
 pub fn ending(direction: Direction, call: Call, control: u8) -> Ending
     ensures { result ≡ ending direction call control }
 {
@@ -39,9 +31,9 @@ pub fn ending(direction: Direction, call: Call, control: u8) -> Ending
 }
 
 // The registers after an accepted call.
-pub fn next(registers: Registers, call: Call, now: Time) -> Registers
-    requires { BeforeLastSecond now }
-    ensures { result ≡ next call now registers }
+#[tactic(auto, unfolding(registers::specs::Calls::next))]
+pub fn next(registers: Registers, call: Call, now: Accepted) -> Registers
+    ensures { result ≡ next call now.time registers }
 {
     match call {
         Call::WriteRegister(a, v) => write_register(registers, a, v, now),
@@ -49,8 +41,8 @@ pub fn next(registers: Registers, call: Call, now: Time) -> Registers
         Call::Read8(_) => registers.read8(now),
         Call::Read16(_) => registers.read16(now),
         Call::Protect => registers.protect(now),
-        Call::Reset => reset(registers, now),
-        Call::PowerOff => power_off(registers, now),
+        Call::Reset => reset(registers, now.time),
+        Call::PowerOff => power_off(registers, now.time),
         Call::Environment(mode, module, oscillator) => environment(
             registers, mode, module, oscillator, now,
         ),
@@ -58,17 +50,15 @@ pub fn next(registers: Registers, call: Call, now: Time) -> Registers
 }
 
 // Whether a call settles in this state.
+#[tactic(auto, unfolding(registers::specs::Calls::settles))]
 pub fn settles(registers: Registers, call: Call, now: Time) -> bool
     ensures { result ≡ settles call now registers }
 {
     match call {
         Call::WriteRegister(a, _) => !(a == FENR) & registers.enabled,
-        Call::Write8(_, _) => true,
-        Call::Read8(_) => !registers.normal(now),
-        Call::Read16(_) => !registers.normal(now),
+        Call::Write8(_, _) | Call::Reset | Call::PowerOff => true,
+        Call::Read8(_) | Call::Read16(_) => !registers.normal(now),
         Call::Protect => registers.pulse().is_some(),
-        Call::Reset => true,
-        Call::PowerOff => true,
         Call::Environment(mode, module, oscillator) => !unchanged(
             registers, mode, module, oscillator,
         ),

@@ -7,15 +7,13 @@ ghost use Rattle.std.specs.Prelude.{◌≡◌, ◌≤◌};
 ghost use Rattle.layout.specs.Layout.{head_known, nothing_clear, placed, legible, in_range, accepted, rows_in};
 
 use crate::slots::slots_sound;
-use cell::{FLASH_SIZE, PAGE, PAGES};
+use cell::{FLASH_SIZE, PAGE_BYTES, PAGES};
 use layout::{ADDRESSES, INDICES, PENDING_INSTANT, RECORD_LEN};
 use rows::get_row;
 use rows::numbers::Number;
 use time::Time;
 
-// A page's bytes and the array's end, as an address has them.
-pub const PAGE_BYTES: u16 = PAGE as u16;
-
+// The array's end, as an address has it.
 const END: u16 = FLASH_SIZE as u16;
 
 // Each flag, supply, mode and option byte is one.

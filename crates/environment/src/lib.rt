@@ -2,7 +2,6 @@
 #![tactic(auto)]
 
 ghost use Rattle.std.specs.Prelude.{◌≡◌};
-ghost use Rattle.time.specs.Raw.{BeforeLastSecond};
 ghost use Rattle.registers.specs.Environment.{cleared, reset, power_off, unchanged, clears, environment_set, environment};
 
 use cell::PAGE;
@@ -10,6 +9,7 @@ use control::supplies::supply_in;
 use control::{Mode, Supply};
 use registers::Registers;
 use time::Time;
+use time::accepted::Accepted;
 use waits::{ESU_RISE, PSU_RISE, SUPPLY_CHANGE, SWE_RISE, renewed};
 
 // Control, error, erase and the pending sense cleared.
@@ -80,10 +80,9 @@ fn environment_set(
     module: bool,
     oscillator: bool,
     supply: Supply,
-    now: Time,
+    now: Accepted,
 ) -> Registers
-    requires { BeforeLastSecond now }
-    ensures { result ≡ environment_set mode «module» oscillator supply now registers }
+    ensures { result ≡ environment_set mode «module» oscillator supply now.time registers }
 {
     let old = registers.supply;
     let starts = oscillator & !registers.oscillator;
@@ -111,16 +110,15 @@ pub fn environment(
     mode: Mode,
     module: bool,
     oscillator: bool,
-    now: Time,
+    now: Accepted,
 ) -> Registers
-    requires { BeforeLastSecond now }
-    ensures { result ≡ environment mode «module» oscillator now registers }
+    ensures { result ≡ environment mode «module» oscillator now.time registers }
 {
     if unchanged(registers, mode, module, oscillator) {
         return registers;
     }
     let supply = supply_in(mode, module, registers.power_down_disabled);
-    let r = registers.settled(now);
+    let r = registers.settled(now.time);
     if clears(registers, mode, module) {
         return environment_set(cleared(r), mode, module, oscillator, supply, now);
     }

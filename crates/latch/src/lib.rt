@@ -2,13 +2,14 @@
 #![tactic(auto)]
 
 ghost use Rattle.std.specs.Prelude.{◌≡◌};
-ghost use Rattle.time.specs.Raw.{BeforeLastSecond};
 ghost use Rattle.registers.specs.Latch.{takes_data, latched, sense_pending, data_taken, data_write, write8};
 
 use bits::{EV, PV, SWE, has};
+use cell::PAGE_BYTES;
 use control::{PendingSense, Supply};
-use registers::{PAGE_BYTES, Registers};
+use registers::Registers;
 use time::Time;
+use time::accepted::Accepted;
 use waits::SENSE;
 
 // Whether a data write is taken.
@@ -33,9 +34,8 @@ fn latched(registers: Registers, address: u16, value: u8) -> Registers
 }
 
 // A sense of the aligned four bytes becomes pending.
-fn sense_pending(registers: Registers, address: u16, now: Time) -> Registers
-    requires { BeforeLastSecond now }
-    ensures { result ≡ sense_pending address now registers }
+fn sense_pending(registers: Registers, address: u16, now: Accepted) -> Registers
+    ensures { result ≡ sense_pending address now.time registers }
 {
     let at = now
         .after(SENSE)
@@ -51,12 +51,12 @@ fn sense_pending(registers: Registers, address: u16, now: Time) -> Registers
     }
 }
 
-fn data_taken(registers: Registers, address: u16, value: u8, now: Time) -> Registers
-    requires { BeforeLastSecond now }
-    ensures { result ≡ data_taken address value now registers }
+#[tactic(auto, unfolding(registers::specs::Latch::data_taken))]
+fn data_taken(registers: Registers, address: u16, value: u8, now: Accepted) -> Registers
+    ensures { result ≡ data_taken address value now.time registers }
 {
     let low = registers.control % 16;
-    if (low == 0) & now.reached(registers.recovery) {
+    if (low == 0) & now.time.reached(registers.recovery) {
         return latched(registers, address, value);
     }
     if (low == PV) | (low == EV) {
@@ -66,19 +66,19 @@ fn data_taken(registers: Registers, address: u16, value: u8, now: Time) -> Regis
 }
 
 // A data write, once it has settled.
-fn data_write(registers: Registers, address: u16, value: u8, now: Time) -> Registers
-    requires { BeforeLastSecond now }
-    ensures { result ≡ data_write address value now registers }
+#[tactic(auto, unfolding(registers::specs::Latch::data_write))]
+fn data_write(registers: Registers, address: u16, value: u8, now: Accepted) -> Registers
+    ensures { result ≡ data_write address value now.time registers }
 {
-    if takes_data(registers, now) {
+    if takes_data(registers, now.time) {
         return data_taken(registers, address, value, now);
     }
     registers
 }
 
-pub fn write8(registers: Registers, address: u16, value: u8, now: Time) -> Registers
-    requires { BeforeLastSecond now }
-    ensures { result ≡ write8 address value now registers }
+#[tactic(auto, unfolding(registers::specs::Latch::write8))]
+pub fn write8(registers: Registers, address: u16, value: u8, now: Accepted) -> Registers
+    ensures { result ≡ write8 address value now.time registers }
 {
-    data_write(registers.settled(now), address, value, now)
+    data_write(registers.settled(now.time), address, value, now)
 }

@@ -1,5 +1,5 @@
 // The lines of document 01's table of refusals, one test each.
-ghost use Rattle.std.specs.Prelude.{◌≡◌};
+ghost use Rattle.std.specs.Prelude.{◌≡◌, IfOk};
 ghost use Rattle.refusal.specs.Refusal.{told};
 ghost use Rattle.lent.specs.Memory.{sizes_misfit, past_end, last_second, time_refusal, too_few_words};
 ghost use Rattle.lent.specs.Asked.{call_of, misplaced, call_refusal};
@@ -13,6 +13,7 @@ use layout::RECORD_LEN;
 use refusal::Refusal;
 use registers::{Call, Pulse};
 use time::Time;
+use time::accepted::Accepted;
 
 // Whether lent memory has not its lengths.
 pub fn sizes_misfit(record: usize, array: usize, charges: usize) -> bool
@@ -78,30 +79,37 @@ fn too_few_words(pulse: Option<Pulse>, words: usize) -> bool
 
 // Whether a time is one at which a state can be called or looked at: not in the last second, nor before the last settling.
 #[tactic(auto, unfolding(crate::specs::Memory::time_refusal))]
-pub fn in_time(flash: &Flash, time: Time) -> Result<(), Refusal>
-    ensures { told result ≡ time_refusal time flash.now }
+pub fn in_time(flash: &Flash, time: Time) -> Result<Accepted, Refusal>
+    ensures told { told result ≡ time_refusal time flash.now }
+    ensures asked { IfOk result (λ now. now.time ≡ time) }
 {
-    if last_second(time) {
+    let Some(now) = time.accepted() else {
         return Err(Refusal::LastSecond);
-    }
+    };
     if time.earlier(flash.pulse_since) {
         return Err(Refusal::TooEarly);
     }
-    Ok(())
+    Ok(now)
 }
 
 // Whether a call on a state that was read is refused, by the lines from 4 on.
 #[tactic(auto, unfolding(crate::specs::Memory::time_refusal, crate::specs::Asked::call_refusal))]
-pub fn call_refusal(flash: Flash, request: Request, time: Time, words: usize) -> Result<(), Refusal>
-    ensures { told result ≡ call_refusal request time words flash }
+pub fn call_refusal(
+    flash: Flash,
+    request: Request,
+    time: Time,
+    words: usize,
+) -> Result<Accepted, Refusal>
+    ensures told { told result ≡ call_refusal request time words flash }
+    ensures asked { IfOk result (λ now. now.time ≡ time) }
 {
     if misplaced(request) {
         return Err(Refusal::Place);
     }
-    in_time(&flash, time)?;
+    let now = in_time(&flash, time)?;
     let registers = flash.registers;
     if settles(registers, call_of(request), time) & too_few_words(registers.pulse(), words) {
         return Err(Refusal::Events);
     }
-    Ok(())
+    Ok(now)
 }

@@ -31,11 +31,6 @@ pub same-either : {A : Type 0} (x : A) (b : Bool) → cond b x x ≡ x
 same-either x true = refl
 same-either x false = refl
 
--- an instant picked by halves is picked
-pub picked-whole : (b : Bool) (t u : Time) → record { 0 = cond b t.0 u.0; 1 = cond b t.1 u.1 } ≡ cond b t u
-picked-whole true t u = refl
-picked-whole false t u = refl
-
 and-false : (b : Bool) → (b && false) ≡ false
 and-false true = refl
 and-false false = refl

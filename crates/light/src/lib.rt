@@ -15,6 +15,7 @@ use lent::checking::last_second;
 use listing::KIND;
 use registers::Registers;
 use time::Time;
+use time::accepted::Accepted;
 
 // The registers that a register write can change, but for a pending sense.
 #[derive(Clone, Copy)]
@@ -53,6 +54,7 @@ fn opens(may: bool, control: u8) -> bool
     may & has(control, SWE) & (program | erase)
 }
 
+#[tactic(auto, unfolding(crate::specs::Writes::is_light))]
 fn is_light(may: bool, control: u8, since: Time, what: u64, now: Time) -> bool
     ensures { result ≡ is_light may control since what now }
 {
@@ -99,8 +101,8 @@ fn run_writes(flash: Flash, calls: &[u64], from: usize, end: usize) -> Ahead
     let mut i: usize = from;
     while i < end {
         let what = calls[3 * i];
-        let now = Time(calls[3 * i + 1], calls[3 * i + 2]);
-        if !is_light(may, settings.control, since, what, now) {
+        let time = Time(calls[3 * i + 1], calls[3 * i + 2]);
+        if !is_light(may, settings.control, since, what, time) {
             return Ahead {
                 flash: lit(flash, settings, since),
                 done: i,
@@ -108,7 +110,9 @@ fn run_writes(flash: Flash, calls: &[u64], from: usize, end: usize) -> Ahead
         }
         let address = (what / 0x100 % 0x1_0000) as u16;
         let value = (what % 0x100) as u8;
-        since = since_after(settings.enabled, address, since, now);
+        since = since_after(settings.enabled, address, since, time);
+        // A light call is before the last second.
+        let now = Accepted { time };
         settings = write(settings, address, value, now);
         i += 1;
     }

@@ -1,6 +1,5 @@
 // Register writes on the few registers that they can change: access::write_register without the latch, which is long to copy.
 ghost use Rattle.std.specs.Prelude.{◌≡◌};
-ghost use Rattle.time.specs.Raw.{BeforeLastSecond};
 ghost use Rattle.control.specs.Waits.{recovery_after};
 ghost use Rattle.registers.specs.Access.{control_set, register_set, write_register};
 ghost use Rattle.light.specs.Writes.{settings_of, with_settings, Changed};
@@ -11,6 +10,7 @@ use bits::{
 };
 use registers::Registers;
 use time::Time;
+use time::accepted::Accepted;
 use waits::{
     ERASE_FALL, ESU_RISE, EV_FALL, PROGRAM_FALL, PSU_RISE, PV_FALL, SWE_FALL, SWE_RISE, raised,
     renewed, verify_ready_after,
@@ -63,9 +63,9 @@ pub fn with_settings(settings: Settings, registers: Registers) -> Registers
 
 // The recovery instant after control goes from `old` to `new`, as `waits::recovery_after` has it. It is written out here, where it is
 // called once, so that the compiler puts it in its place: a call would have the settings in memory.
-fn recovery_in(old: u8, new: u8, now: Time, t: Time) -> Time
-    requires { BeforeLastSecond now }
-    ensures { result ≡ recovery_after old new now t }
+#[tactic(auto, unfolding(control::specs::Waits::recovery_after))]
+fn recovery_in(old: u8, new: u8, now: Accepted, t: Time) -> Time
+    ensures { result ≡ recovery_after old new now.time t }
 {
     let program = falls(P, old, new) | falls(PSU, old, new);
     let erase = falls(E, old, new) | falls(ESU, old, new);
@@ -77,9 +77,9 @@ fn recovery_in(old: u8, new: u8, now: Time, t: Time) -> Time
 }
 
 // Control becomes `new`, with all that follows from it.
-fn set_control(settings: Settings, new: u8, now: Time) -> Settings
-    requires { BeforeLastSecond now }
-    ensures { Changed (control_set new now) settings result }
+#[tactic(auto, unfolding(registers::specs::Access::control_set))]
+fn set_control(settings: Settings, new: u8, now: Accepted) -> Settings
+    ensures { Changed (control_set new now.time) settings result }
 {
     let old = settings.control;
     let recovery = recovery_in(old, new, now, settings.recovery);
@@ -101,9 +101,9 @@ fn set_control(settings: Settings, new: u8, now: Time) -> Settings
 }
 
 // A write to a register other than F02B.
-fn set_register(settings: Settings, address: u16, value: u8, now: Time) -> Settings
-    requires { BeforeLastSecond now }
-    ensures { Changed (register_set address value now) settings result }
+#[tactic(auto, unfolding(registers::specs::Access::register_set))]
+fn set_register(settings: Settings, address: u16, value: u8, now: Accepted) -> Settings
+    ensures { Changed (register_set address value now.time) settings result }
 {
     match address {
         0xf020 => set_control(settings, control_value(value), now),
@@ -124,9 +124,9 @@ fn set_register(settings: Settings, address: u16, value: u8, now: Time) -> Setti
     }
 }
 
-pub fn write(settings: Settings, address: u16, value: u8, now: Time) -> Settings
-    requires { BeforeLastSecond now }
-    ensures { Changed (write_register address value now) settings result }
+#[tactic(auto, unfolding(registers::specs::Access::write_register, registers::specs::Access::settled))]
+pub fn write(settings: Settings, address: u16, value: u8, now: Accepted) -> Settings
+    ensures { Changed (write_register address value now.time) settings result }
 {
     if address == FENR {
         return Settings {

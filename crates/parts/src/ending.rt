@@ -6,7 +6,8 @@ ghost use Rattle.registers.specs.Calls.{ending, ending_number};
 ghost use Rattle.settle.specs.Settling.{ends_of, range_bytes, range_end, word};
 
 use calling::ending;
-use registers::{Call, PAGE_BYTES, Pulse};
+use cell::PAGE_BYTES;
+use registers::{Call, Pulse};
 use settling::{EventKind, word};
 
 // The end event's word of a pulse whose range is not empty.

@@ -2,7 +2,6 @@
 #![tactic(auto)]
 
 ghost use Rattle.std.specs.Prelude.{◌≡◌, true, ◌<◌, ◌≤◌, length};
-ghost use Rattle.time.specs.Raw.{BeforeLastSecond};
 ghost use Rattle.registers.specs.Pulses.{pulse};
 ghost use Rattle.registers.specs.Calls.{settles};
 ghost use Rattle.settle.specs.Settling.{range_bytes};
@@ -16,7 +15,7 @@ use parts::verifying::sense;
 use registers::Call;
 use settle::cells::CellsRef;
 use settling::settle;
-use time::Time;
+use time::accepted::Accepted;
 
 // The state after a call, its answer, and the number of event words given.
 #[derive(Clone, Copy)]
@@ -27,18 +26,13 @@ pub struct Done {
 }
 
 // The sensed bytes after a call whose settle left some.
+#[tactic(auto, unfolding(flash::specs::Chip::blank_sensed))]
 fn sensed_after(call: Call, sensed: [u8; 4]) -> [u8; 4]
     ensures { result ≡ sensed_after call sensed }
 {
     match call {
-        Call::WriteRegister(_, _) => sensed,
-        Call::Write8(_, _) => sensed,
-        Call::Read8(_) => sensed,
-        Call::Read16(_) => sensed,
-        Call::Protect => sensed,
-        Call::Reset => [0xFF; 4],
-        Call::PowerOff => [0xFF; 4],
-        Call::Environment(_, _, _) => sensed,
+        Call::Reset | Call::PowerOff => [0xFF; 4],
+        _ => sensed,
     }
 }
 
@@ -49,10 +43,10 @@ fn perform_settling(
     charges: &mut [u64],
     events: &mut [u64],
     call: Call,
-    time: Time,
+    now: Accepted,
 ) -> Done
-    requires { Fit (record { flash = flash; array = array.old; charges = charges.old }) × (placed call ≡ true) × BeforeLastSecond time × (1 ≤ range_bytes (pulse flash.registers) → range_bytes (pulse flash.registers) < length events.old) × (settles call time flash.registers ≡ true) }
-    ensures { Performed call time (record { flash = flash; array = array.old; charges = charges.old }) events.old result.flash array.new charges.new events.new result.value result.count }
+    requires { Fit (record { flash = flash; array = array.old; charges = charges.old }) × (placed call ≡ true) × (1 ≤ range_bytes (pulse flash.registers) → range_bytes (pulse flash.registers) < length events.old) × (settles call now.time flash.registers ≡ true) }
+    ensures { Performed call now.time (record { flash = flash; array = array.old; charges = charges.old }) events.old result.flash array.new charges.new events.new result.value result.count }
 {
     let registers = flash.registers;
     let latch = registers.latch;
@@ -66,9 +60,9 @@ fn perform_settling(
         pulse,
         &latch,
         flash.pulse_since,
-        time,
+        now.time,
     );
-    let next = next(registers, call, time);
+    let next = next(registers, call, now);
     let count = end_pulse(events, changed, call, next.control, pulse, next.pulse());
     let cells = CellsRef {
         index: &indices,
@@ -76,13 +70,13 @@ fn perform_settling(
         charges,
     };
     let old = flash.sensed;
-    let sensed = sense(registers, time, &cells, old);
-    let value = settled_answer(call, time, pulse, registers, sensed);
+    let sensed = sense(registers, now.time, &cells, old);
+    let value = settled_answer(call, now.time, pulse, registers, sensed);
     let kept = sensed_after(call, sensed);
     Done {
         flash: Flash {
             registers: next,
-            pulse_since: time,
+            pulse_since: now.time,
             sensed: kept,
             indices: indices,
         },
@@ -98,19 +92,19 @@ pub fn perform(
     charges: &mut [u64],
     events: &mut [u64],
     call: Call,
-    time: Time,
+    now: Accepted,
 ) -> Done
-    requires { Fit (record { flash = flash; array = array.old; charges = charges.old }) × (placed call ≡ true) × BeforeLastSecond time × (settles call time flash.registers ≡ true → 1 ≤ range_bytes (pulse flash.registers) → range_bytes (pulse flash.registers) < length events.old) }
-    ensures { Performed call time (record { flash = flash; array = array.old; charges = charges.old }) events.old result.flash array.new charges.new events.new result.value result.count }
+    requires { Fit (record { flash = flash; array = array.old; charges = charges.old }) × (placed call ≡ true) × (settles call now.time flash.registers ≡ true → 1 ≤ range_bytes (pulse flash.registers) → range_bytes (pulse flash.registers) < length events.old) }
+    ensures { Performed call now.time (record { flash = flash; array = array.old; charges = charges.old }) events.old result.flash array.new charges.new events.new result.value result.count }
 {
     let registers = flash.registers;
-    if settles(registers, call, time) {
-        return perform_settling(flash, array, charges, events, call, time);
+    if settles(registers, call, now.time) {
+        return perform_settling(flash, array, charges, events, call, now);
     }
-    let value = stored_answer(call, registers, time, array);
+    let value = stored_answer(call, registers, now.time, array);
     Done {
         flash: Flash {
-            registers: next(registers, call, time),
+            registers: next(registers, call, now),
             ..flash
         },
         value: value,

@@ -13,9 +13,6 @@ use control::verify::sense_due;
 use control::{Mode, PendingSense, Supply};
 use time::Time;
 
-// Bytes of a page, as an address has them.
-pub const PAGE_BYTES: u16 = PAGE as u16;
-
 #[derive(Clone, Copy)]
 pub struct Registers {
     pub control: u8,
@@ -40,6 +37,7 @@ pub struct Registers {
 
 impl Registers {
     // The registers of a fresh array.
+    #[tactic(auto, unfolding(crate::specs::Environment::fresh, crate::specs::Environment::blank_latch, time::specs::Raw::instant))]
     pub fn new() -> Registers
         ensures { result ≡ fresh }
     {
@@ -66,6 +64,7 @@ impl Registers {
     }
 
     // The registers after a settle: a sense that is due is no longer pending.
+    #[tactic(auto, unfolding(crate::specs::Access::settled))]
     pub fn settled(self, now: Time) -> Registers
         ensures { result ≡ settled now self }
     {

@@ -1,14 +1,14 @@
 // The open pulse, normal reading, and protection.
 ghost use Rattle.std.specs.Prelude.{◌≡◌};
-ghost use Rattle.time.specs.Raw.{BeforeLastSecond};
 ghost use Rattle.registers.specs.Pulses.{ready_for, program_pulse, erase_pulse, powered, pulse, normal, tripped, protect, read8, read16};
 
-use crate::{PAGE_BYTES, Pulse, Registers};
+use crate::{Pulse, Registers};
 use bits::{E, ESU, P, PSU, SWE, has};
-use cell::Direction;
+use cell::{Direction, PAGE_BYTES};
 use control::Supply;
 use control::blocks::erase_range;
 use time::Time;
+use time::accepted::Accepted;
 use waits::trip_wait;
 
 impl Registers {
@@ -51,6 +51,7 @@ impl Registers {
     }
 
     // The open pulse.
+    #[tactic(auto, unfolding(crate::specs::Pulses::pulse))]
     pub fn pulse(self) -> Option<Pulse>
         ensures { result ≡ pulse self }
     {
@@ -80,9 +81,8 @@ impl Registers {
     }
 
     // What a tripped protection does to the registers.
-    pub fn tripped(self, pulse: Option<Pulse>, now: Time) -> Registers
-        requires { BeforeLastSecond now }
-        ensures { result ≡ tripped pulse now self }
+    pub fn tripped(self, pulse: Option<Pulse>, now: Accepted) -> Registers
+        ensures { result ≡ tripped pulse now.time self }
     {
         match pulse {
             None => self,
@@ -97,35 +97,35 @@ impl Registers {
         }
     }
 
-    pub fn protect(self, now: Time) -> Registers
-        requires { BeforeLastSecond now }
-        ensures { result ≡ protect now self }
+    #[tactic(auto, unfolding(crate::specs::Pulses::protect))]
+    pub fn protect(self, now: Accepted) -> Registers
+        ensures { result ≡ protect now.time self }
     {
         let pulse = self.pulse();
         if pulse.is_some() {
-            return self.settled(now).tripped(pulse, now);
+            return self.settled(now.time).tripped(pulse, now);
         }
         self
     }
 
     // What reading a byte does to the registers.
-    pub fn read8(self, now: Time) -> Registers
-        requires { BeforeLastSecond now }
-        ensures { result ≡ read8 now self }
+    #[tactic(auto, unfolding(crate::specs::Pulses::read8))]
+    pub fn read8(self, now: Accepted) -> Registers
+        ensures { result ≡ read8 now.time self }
     {
-        if self.normal(now) {
+        if self.normal(now.time) {
             return self;
         }
         let pulse = self.pulse();
-        self.settled(now).tripped(pulse, now)
+        self.settled(now.time).tripped(pulse, now)
     }
 
     // What reading a word does to the registers.
-    pub fn read16(self, now: Time) -> Registers
-        requires { BeforeLastSecond now }
-        ensures { result ≡ read16 now self }
+    #[tactic(auto, unfolding(crate::specs::Pulses::read16))]
+    pub fn read16(self, now: Accepted) -> Registers
+        ensures { result ≡ read16 now.time self }
     {
-        if self.normal(now) {
+        if self.normal(now.time) {
             return self;
         }
         self.read8(now).read8(now)

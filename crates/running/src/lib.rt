@@ -47,8 +47,8 @@ fn call_held(
     requires { Ready (chip flash.old array.old charges.old) × Numbers request × TimeFits time }
     ensures { Called request time events.old (chip flash.old array.old charges.old) (chip flash.new array.new charges.new) events.new (told result) (value_of result) (count_of result) }
 {
-    call_refusal(*flash, request, time, events.len())?;
-    let done = perform(*flash, array, charges, events, call_of(request), time);
+    let now = call_refusal(*flash, request, time, events.len())?;
+    let done = perform(*flash, array, charges, events, call_of(request), now);
     *flash = done.flash;
     Ok(Answer {
         value: done.value,

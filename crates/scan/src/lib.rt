@@ -8,8 +8,8 @@ ghost use Rattle.layout.specs.Layout.{word};
 ghost use Rattle.refusal.specs.Refusal.{told, Answers};
 ghost use Rattle.snapshot.specs.Places.{pages_place, count_in, cells_number, address_number, with_page, pages_number, pages_index, bytes_number, end_number, state_length, state_number, scan_number};
 
-use cell::{FULL, PAGE, PAGES};
-use checks::{PAGE_BYTES, placed};
+use cell::{FULL, PAGE, PAGE_BYTES, PAGES};
+use checks::placed;
 use refusal::Refusal;
 use rows::numbers::Number;
 use snapshot::{COUNT, FIRST_PAGE, page_at};

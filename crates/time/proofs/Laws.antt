@@ -198,9 +198,9 @@ pub sum_fits : (t : Time) (d : Duration) → t.0 < 2 ^ 64 - 1 → t.1 < 2 ^ 64 �
 unfolding raw
 sum_fits t d h = halves-room (2 ^ 64) t.0 t.1 (span d) (omega arith)
 
-pub after-added : (now : Time) (n : ℕ) → now.0 < 2 ^ 64 - 1 → now.1 < 2 ^ 64 → n < 1000000 → added now (micros n) ≡ Some (after now n)
+pub after_added : (now : Time) (n : ℕ) → now.0 < 2 ^ 64 - 1 → now.1 < 2 ^ 64 → n < 1000000 → added now (micros n) ≡ Some (after now n)
 unfolding added after
-after-added now n h k l = rw (lt-ltb (raw now + span (micros n)) (2 ^ 128) (sum_fits now (micros n) h k (micros-short n l)))
+after_added now n h k l = rw (lt-ltb (raw now + span (micros n)) (2 ^ 128) (sum_fits now (micros n) h k (micros-short n l)))
 
 -- N microseconds without a product past 64 bits
 pub is-micros : (n : ℕ) (d : Duration) → d.0 ≡ n / 1000000 → d.1 ≡ n % 1000000 * 18446744073709 + n % 1000000 * 551616 / 1000000 → d.1 < 2 ^ 64 → d ≡ micros n

@@ -2,8 +2,12 @@
 // whole seconds and a fraction.
 #![tactic(auto)]
 
-ghost use Rattle.std.specs.Prelude.{◌≡◌, ◌<◌, ltb, leb, eqb};
-ghost use Rattle.time.specs.Raw.{raw, span, later, added, after, since, micros, micros_per_second, BeforeLastSecond};
+pub mod accepted;
+
+ghost use Rattle.std.specs.Prelude.{◌≡◌, ◌-◌, ◌^◌, ltb, leb, eqb, MatchOption};
+ghost use Rattle.time.specs.Raw.{raw, span, later, added, since, micros};
+
+use crate::accepted::Accepted;
 
 // An instant: whole seconds, and a fraction of a second.
 #[derive(Clone, Copy, Debug, PartialEq, Eq, PartialOrd, Ord)]
@@ -55,13 +59,14 @@ impl Time {
         Some(Time(self.0 + d.0, self.1 + d.1))
     }
 
-    // The instant n microseconds after this one, for a wait below one second.
-    pub fn after(self, n: u64) -> Time
-        requires { BeforeLastSecond self × (n < micros_per_second) }
-        ensures { result ≡ after self n }
+    // This instant as an accepted time: none in the last second.
+    pub fn accepted(self) -> Option<Accepted>
+        ensures { MatchOption result (self.0 ≡ 2 ^ 64 - 1) (λ now. now.time ≡ self) }
     {
-        let sum = self.checked_add(Duration::from_micros(n));
-        sum.unwrap_or(self)
+        if self.0 == u64::MAX {
+            return None;
+        }
+        Some(Accepted { time: self })
     }
 
     // The time from an earlier instant to this one, 0 if negative.

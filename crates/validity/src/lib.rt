@@ -6,7 +6,8 @@ ghost use Rattle.layout.specs.Layout.{decoded};
 ghost use Rattle.refusal.specs.Refusal.{Answers};
 ghost use Rattle.snapshot.specs.Asked.{pending_placed, valid, valid_refusal};
 
-use checks::{PAGE_BYTES, legible, placed};
+use cell::PAGE_BYTES;
+use checks::{legible, placed};
 use coding::read;
 use control::PendingSense;
 use flash::Flash;

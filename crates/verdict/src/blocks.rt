@@ -2,6 +2,7 @@
 ghost use Rattle.std.specs.Prelude.{◌≡◌, ◌<◌, ◌≤◌};
 ghost use Rattle.verdict.specs.Blocks.{blocks, block_range, in_range, block_of, pages_touched};
 
+use cell::PAGE_BYTES;
 use control::Range;
 use control::blocks::erase_range;
 
@@ -9,8 +10,6 @@ pub const BLOCKS: usize = 6;
 
 // The erase register's value that selects each block.
 const ERASE: [u8; 6] = [1, 2, 4, 8, 16, 32];
-
-const PAGE_BYTES: u16 = 128;
 
 // The pages of a block.
 pub fn block_range(block: usize) -> Range

@@ -2,12 +2,13 @@
 #![tactic(auto)]
 
 ghost use Rattle.std.specs.Prelude.{◌≡◌, ◌<◌};
-ghost use Rattle.time.specs.Raw.{BeforeLastSecond, micros_per_second};
+ghost use Rattle.time.specs.Raw.{micros_per_second};
 ghost use Rattle.control.specs.Waits.{raised, renewed, recovery_after, verify_ready_after, trip_wait};
 
 use bits::{E, ESU, EV, P, PSU, PV, SWE, falls, has};
 use cell::Direction;
 use time::Time;
+use time::accepted::Accepted;
 
 // Recovery after bits of control fall: P or PSU, E or ESU, PV, EV, SWE. A tripped pulse waits as if its bit fell.
 pub const PROGRAM_FALL: u64 = 5;
@@ -38,25 +39,25 @@ pub const SENSE: u64 = 2;
 pub const SUPPLY_CHANGE: u64 = 20;
 
 // An instant raised to at least now plus n microseconds, if due.
-pub fn raised(due: bool, n: u64, now: Time, t: Time) -> Time
-    requires { BeforeLastSecond now × (n < micros_per_second) }
-    ensures { result ≡ raised due n now t }
+pub fn raised(due: bool, n: u64, now: Accepted, t: Time) -> Time
+    requires { n < micros_per_second }
+    ensures { result ≡ raised due n now.time t }
 {
     if due { t.max(now.after(n)) } else { t }
 }
 
 // An instant set to now plus n microseconds, if due.
-pub fn renewed(due: bool, n: u64, now: Time, t: Time) -> Time
-    requires { BeforeLastSecond now × (n < micros_per_second) }
-    ensures { result ≡ renewed due n now t }
+pub fn renewed(due: bool, n: u64, now: Accepted, t: Time) -> Time
+    requires { n < micros_per_second }
+    ensures { result ≡ renewed due n now.time t }
 {
     if due { now.after(n) } else { t }
 }
 
 // The recovery instant after control goes from `old` to `new`.
-pub fn recovery_after(old: u8, new: u8, now: Time, t: Time) -> Time
-    requires { BeforeLastSecond now }
-    ensures { result ≡ recovery_after old new now t }
+#[tactic(auto, unfolding(control::specs::Waits::recovery_after))]
+pub fn recovery_after(old: u8, new: u8, now: Accepted, t: Time) -> Time
+    ensures { result ≡ recovery_after old new now.time t }
 {
     let program = falls(P, old, new) | falls(PSU, old, new);
     let erase = falls(E, old, new) | falls(ESU, old, new);
@@ -68,9 +69,9 @@ pub fn recovery_after(old: u8, new: u8, now: Time, t: Time) -> Time
 }
 
 // The verify-ready instant after control goes from `old` to `new`.
-pub fn verify_ready_after(old: u8, new: u8, now: Time, t: Time) -> Time
-    requires { BeforeLastSecond now }
-    ensures { result ≡ verify_ready_after old new now t }
+#[tactic(auto, unfolding(control::specs::Waits::verify_ready_after))]
+pub fn verify_ready_after(old: u8, new: u8, now: Accepted, t: Time) -> Time
+    ensures { result ≡ verify_ready_after old new now.time t }
 {
     let due = falls(PV, new, old) | falls(EV, new, old);
     if has(new, EV) {

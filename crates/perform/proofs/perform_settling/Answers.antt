@@ -5,11 +5,11 @@ use Rattle.perform.proofs.perform_settling.Goals as goal
 
 pub settle-changed-requires : goal.settle-changed-requires
 settle-changed-requires c =
-    let p = c.requires in let f = p.0 in (f.index_long, f.slots, f.array_long, f.charges_long, rw c.pulse-pulse.ensures f.pulse_inside, rw c.pulse-pulse.ensures (room-le _ _ p.3))
+    let p = c.requires in let f = p.0 in (f.index_long, f.slots, f.array_long, f.charges_long, rw c.pulse-pulse.ensures f.pulse_inside, rw c.pulse-pulse.ensures (room-le _ _ p.2))
 
 pub end_pulse-count-requires : goal.end_pulse-count-requires
 end_pulse-count-requires c =
-    let p = c.requires in (rw c.pulse-pulse.ensures p.0.pulse_inside, end-room _ _ c.requires.0 _ c.pulse-pulse.ensures c.settle-changed.ensures p.3)
+    let p = c.requires in (rw c.pulse-pulse.ensures p.0.pulse_inside, end-room _ _ c.requires.0 _ c.pulse-pulse.ensures c.settle-changed.ensures p.2)
 
 pub invariant_of-cells : goal.invariant_of-cells
 invariant_of-cells c =
@@ -24,4 +24,4 @@ settled_answer-value-requires c =
 
 pub returns : goal.returns
 returns c =
-    performs _ _ c.requires.0 _ c.pulse-pulse.ensures c.settle-changed.ensures _ c.requires.4 _ c.next-next.ensures (c.end_pulse-count.ensures.0 ∙ rw c.pulse.ensures) (c.end_pulse-count.ensures.1 ∙ rw c.pulse.ensures) c.sense-sensed.ensures c.settled_answer-value.ensures.0 c.settled_answer-value.ensures.1 c.sensed_after-kept.ensures
+    performs _ _ c.requires.0 _ c.pulse-pulse.ensures c.settle-changed.ensures _ c.requires.3 _ c.next-next.ensures (c.end_pulse-count.ensures.0 ∙ rw c.pulse.ensures) (c.end_pulse-count.ensures.1 ∙ rw c.pulse.ensures) c.sense-sensed.ensures c.settled_answer-value.ensures.0 c.settled_answer-value.ensures.1 c.sensed_after-kept.ensures
