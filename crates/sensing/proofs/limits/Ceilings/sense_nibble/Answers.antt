@@ -3,7 +3,7 @@
 use native.Mathlib.Nat.{add-zero}
 use Rattle.cell.specs.Cell.{from_bits}
 use native.Mathlib.Omega.{arith}
-use Rattle.sensing.proofs.sense_nibble.Goals as goal
+use Rattle.sensing.proofs.limits.Ceilings.sense_nibble.Goals as goal
 
 pub returns : goal.returns
 unfolding from_bits

@@ -2,7 +2,7 @@
 -- Assumes nothing.
 use Rattle.cell.specs.Cell.{sensed_byte, from_bits}
 use native.Mathlib.Omega.{arith}
-use Rattle.sensing.proofs.sense_byte.Goals as goal
+use Rattle.sensing.proofs.limits.Ceilings.sense_byte.Goals as goal
 
 pub returns : goal.returns
 unfolding sensed_byte from_bits

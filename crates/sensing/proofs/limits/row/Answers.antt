@@ -1,7 +1,7 @@
 -- `sensing::row` meets its contract: each row is the rule of ceilings for its mode written out, by computing the rule.
 -- Assumes nothing.
 use Rattle.cell.specs.Cell.{ceiling_of, limit_of}
-use Rattle.sensing.proofs.row.Goals as goal
+use Rattle.sensing.proofs.limits.row.Goals as goal
 
 pub returns-in-Normal : goal.returns-in-Normal
 unfolding ceiling_of limit_of
