@@ -2,7 +2,7 @@
 ghost use Rattle.std.specs.Prelude.{◌≡◌, ◌<◌, ◌≤◌, ◌+◌, ◌-◌, ◌*◌, length, take, drop, Some};
 ghost use Rattle.std.proofs.lemmas.List.Edits.{sets};
 ghost use Rattle.cell.specs.declared.Sense.TheVariants.{Normal};
-ghost use Rattle.cell.specs.Cell.{array_bytes, page_bytes, at, tabulate, ceiling_table};
+ghost use Rattle.cell.specs.Cell.{array_bytes, page_bytes, at, tabulate};
 ghost use Rattle.settle.specs.Pages.{cell_at};
 ghost use Rattle.settle.specs.Views.{cells_in, exposed};
 ghost use Rattle.flash.specs.Looking.{all_blank, peek_at, blank_at, image_at};
@@ -11,7 +11,7 @@ ghost use Rattle.flash.specs.Views.{chip_of};
 use crate::looking::{charge_after, exposure_at};
 use cell::{FLASH_SIZE, PAGE, PAGES, Sense};
 use flash::held::Held;
-use sensing::{ceilings, sense_byte};
+use sensing::limits::Ceilings;
 use settle::cells::CellsRef;
 use settle::exposure::Exposure;
 use time::Time;
@@ -32,10 +32,10 @@ fn charges_after(cells: CellsRef, exposure: Option<Exposure>, address: usize) ->
 fn byte_after(
     cells: CellsRef,
     exposure: Option<Exposure>,
-    limits: &[u64; 256],
+    ceilings: &Ceilings,
     address: usize,
 ) -> u8
-    requires { (limits.now ≡ ceiling_table Normal) × (address < array_bytes) }
+    requires { (ceilings.now.sense ≡ Normal) × (address < array_bytes) }
     ensures { result ≡ at (exposed exposure.entry (cells_in cells.entry)).array address }
 {
     let Some(reaching) = exposure else {
@@ -45,7 +45,7 @@ fn byte_after(
         return cells.array[address];
     }
     let charges = charges_after(cells, exposure, address);
-    sense_byte(Sense::Normal, limits, address, &charges)
+    ceilings.sense_byte(address, &charges)
 }
 
 // The byte at an address at a time.
@@ -54,8 +54,8 @@ pub fn peek(held: &Held, address: usize, time: Time) -> u8
     requires { address < array_bytes }
     ensures { result ≡ peek_at time (chip_of held.now) address }
 {
-    let limits = ceilings(Sense::Normal);
-    byte_after(held.cells(), exposure_at(held, time), &limits, address)
+    let ceilings = Ceilings::of(Sense::Normal);
+    byte_after(held.cells(), exposure_at(held, time), &ceilings, address)
 }
 
 // Whether the 128 bytes from `start` on all read FF after an exposure.
@@ -63,9 +63,9 @@ fn all_blank(cells: CellsRef, exposure: Option<Exposure>, start: usize) -> bool
     requires { start + page_bytes ≤ array_bytes }
     ensures { result ≡ all_blank page_bytes start (exposed exposure.entry (cells_in cells.entry)).array }
 {
-    let limits = ceilings(Sense::Normal);
+    let ceilings = Ceilings::of(Sense::Normal);
     for i in 0..PAGE {
-        let byte = byte_after(cells, exposure, &limits, start + i);
+        let byte = byte_after(cells, exposure, &ceilings, start + i);
         if byte != 0xFF {
             return false;
         }
@@ -95,16 +95,16 @@ fn write_stored(array: &[u8], start: usize, end: usize, out: &mut [u8])
 fn write_exposed(
     cells: CellsRef,
     exposure: Exposure,
-    limits: &[u64; 256],
+    ceilings: &Ceilings,
     start: usize,
     out: &mut [u8],
 )
-    requires { (limits.now ≡ ceiling_table Normal) × (start + page_bytes ≤ array_bytes) × (array_bytes ≤ length out.old) }
+    requires { (ceilings.now.sense ≡ Normal) × (start + page_bytes ≤ array_bytes) × (array_bytes ≤ length out.old) }
     ensures { out.new ≡ sets out.old start (take page_bytes (drop start (exposed (Some exposure.entry) (cells_in cells.entry)).array)) }
 {
     for i in 0..PAGE {
         let address = start + i;
-        out[address] = byte_after(cells, Some(exposure), limits, address);
+        out[address] = byte_after(cells, Some(exposure), ceilings, address);
     }
 }
 
@@ -113,11 +113,11 @@ fn write_image(cells: CellsRef, exposure: Exposure, out: &mut [u8])
     requires { array_bytes ≤ length out.old }
     ensures { out.new ≡ sets out.old 0 (exposed (Some exposure.entry) (cells_in cells.entry)).array }
 {
-    let limits = ceilings(Sense::Normal);
+    let ceilings = Ceilings::of(Sense::Normal);
     for page in 0..PAGES {
         let start = page * PAGE;
         if exposure.covers(page) {
-            write_exposed(cells, exposure, &limits, start, out);
+            write_exposed(cells, exposure, &ceilings, start, out);
         } else {
             write_stored(cells.array, start, start + PAGE, out);
         }

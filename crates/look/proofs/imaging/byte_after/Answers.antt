@@ -11,4 +11,4 @@ returns-then-not-covers c =
 pub returns : goal.returns
 returns c =
     let e = sym c.covers.ensures ∙ c.if-not-covers.false in
-    c.sense_byte.ensures ∙ rw c.in-Some.is (byte-here c.in-Some.reaching c.args.cells _ _ c.requires.1 e (rw c.in-Some.is at c.charges_after-charges.ensures))
+    c.sense_byte.ensures ∙ rw (c.in-Some.is, c.requires.0) (byte-here c.in-Some.reaching c.args.cells _ _ c.requires.1 e (rw c.in-Some.is at c.charges_after-charges.ensures))
