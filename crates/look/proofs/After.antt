@@ -1,7 +1,7 @@
 -- What an exposure leaves, cell by cell and byte by byte: a cell moves and a byte is sensed anew where it covers the page.
 -- Assumes nothing.
 use mathlib.Core.Path.{◌≡◌, refl, sym, ◌∙◌}
-use mathlib.Core.Bool.{true, false}
+use mathlib.Core.Bool.{true, false, cond}
 use mathlib.Core.List.{List}
 use Prim.Native.Nat.{ℕ, zero, suc, ◌+◌, ◌*◌, ◌/◌, ◌%◌, ◌<◌}
 use native.Mathlib.Omega.{arith}
@@ -18,14 +18,21 @@ use Rattle.settle.specs.declared.exposure.Exposure.{Exposure}
 use Rattle.settle.specs.Pages.{Cells, cell_at}
 use Rattle.settle.specs.Settling.{covers, charged, ruled, normal_byte, expose}
 use Rattle.settle.specs.Views.{cells_in}
+use Rattle.flash.specs.Looking.{exposed_by}
 use Rattle.settle.proofs.Slots.{SlotsOf, slots-from}
 use Rattle.settle.proofs.Expose.{normal-same, resensed-here, resensed-else, expose-cell, expose-array-length}
 
--- of an exposure that lasts
+exposed-if : (p : Pulse) (latch : List ℕ) (l i q : ℕ) → 0 < l → exposed_by p latch l i q ≡ cond (covers p (i / 1024)) (charged p latch l i q) q
+unfolding exposed_by ruled
+exposed-if p latch zero i q h = absurd (omega arith)
+exposed-if p latch (suc l) i q h = refl
+
 module _ (p : Pulse) (latch : List ℕ) (c : Cells) where
-  cell-ruled : (l : ℕ) → 0 < l → SlotsOf c → (i : ℕ) → i < 393216 → cell_at (expose p latch l c) i ≡ ruled p latch l i (cell_at c i)
-  cell-ruled zero h inv i k = absurd (omega arith)
-  cell-ruled (suc l) h inv i k = expose-cell p latch l c inv i k
+  -- whatever it lasts
+  pub cell-exposed : SlotsOf c → (l i : ℕ) → i < 393216 → cell_at (expose p latch l c) i ≡ exposed_by p latch l i (cell_at c i)
+  unfolding expose exposed_by
+  cell-exposed inv zero i h = refl
+  cell-exposed inv (suc l) i h = expose-cell p latch l c inv i h
 
   byte-ruled : (l : ℕ) → 0 < l → SlotsOf c → (a : ℕ) → a < length c.array → a < 49152 → covers p (a / 128) ≡ true
       → at (expose p latch l c).array a ≡ normal_byte (cell_at (expose p latch l c)) a
@@ -48,14 +55,18 @@ module _ (e : Exposure) (cells : CellsRef) where
   slots : SlotsOf (cells_in cells)
   slots = slots-from _ _ cells.index_long cells.charges_long cells.sound
 
+  cell-after : (i : ℕ) → i < 393216
+      → cell_at (after e cells) i ≡ cond (covers e.pulse (i / 1024)) (charged e.pulse e.latch.now (span e.length) i (cell_at (cells_in cells) i)) (cell_at (cells_in cells) i)
+  cell-after i h =
+      cell-exposed e.pulse e.latch.now (cells_in cells) slots (span e.length) i h ∙ exposed-if e.pulse e.latch.now (span e.length) i _ e.lasts
+
   pub cell-else : (i : ℕ) → i < 393216 → covers e.pulse (i / 1024) ≡ false → cell_at (cells_in cells) i ≡ cell_at (after e cells) i
-  unfolding ruled
-  cell-else i h n = sym (cell-ruled e.pulse e.latch.now (cells_in cells) (span e.length) e.lasts slots i h ∙ rw n)
+  cell-else i h n = sym (cell-after i h ∙ rw n)
 
   pub cell-here : (i : ℕ) → i < 393216 → covers e.pulse (i / 1024) ≡ true
       → exposed e.pulse.direction (page_bit e.latch.now (i % 1024)) (span e.length) (cell_at (cells_in cells) i) ≡ cell_at (after e cells) i
-  unfolding ruled charged
-  cell-here i h n = sym (cell-ruled e.pulse e.latch.now (cells_in cells) (span e.length) e.lasts slots i h ∙ rw n)
+  unfolding charged
+  cell-here i h n = sym (cell-after i h ∙ rw n)
 
   pub byte-else : (a : ℕ) → covers e.pulse (a / 128) ≡ false → at cells.array.now a ≡ at (after e cells).array a
   byte-else a n = sym (byte-kept e.pulse e.latch.now (cells_in cells) (span e.length) a n)
