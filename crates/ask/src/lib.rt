@@ -4,11 +4,12 @@
 ghost use Rattle.std.specs.Prelude.{◌≡◌, ◌<◌};
 ghost use Rattle.refusal.specs.Refusal.{told};
 ghost use Rattle.flash.specs.Chip.{answer_limit};
-ghost use Rattle.lent.specs.Asked.{call_of, outcome, value_of, count_of, Told};
+ghost use Rattle.lent.specs.Asked.{call_of, outcome, value_of, count_of};
+ghost use Rattle.lent.specs.Views.{memory_at, SameLent, Leaves};
 
 use coding::write;
 use lent::checking::{call_of, call_refusal};
-use lent::opening::opened;
+use lent::memory::LentMut;
 use lent::{Answer, Request};
 use perform::perform;
 use refusal::Refusal;
@@ -16,19 +17,27 @@ use time::Time;
 
 // Any call: its answer, or why it is refused.
 pub fn ask(
-    record: &mut [u8],
-    array: &mut [u8],
-    charges: &mut [u64],
+    memory: &mut LentMut,
     events: &mut [u64],
     request: Request,
     time: Time,
 ) -> Result<Answer, Refusal>
-    ensures { Told (outcome request time events.old (record { bytes = «record».old; array = array.old; charges = charges.old })) (told result) (count_of result) «record».new array.new charges.new events.new × (value_of result ≡ (outcome request time events.old (record { bytes = «record».old; array = array.old; charges = charges.old })).value) × (value_of result < answer_limit (call_of request)) }
+    ensures same { SameLent memory.old memory.new }
+    ensures left { Leaves (outcome request time events.old (memory_at memory.old)) (told result) (count_of result) memory.new events.new }
+    ensures value { value_of result ≡ (outcome request time events.old (memory_at memory.old)).value }
+    ensures limit { value_of result < answer_limit (call_of request) }
 {
-    let flash = opened(record, array, charges)?;
+    let flash = memory.seen().opened()?.flash;
     let now = call_refusal(flash, request, time, events.len())?;
-    let done = perform(flash, array, charges, events, call_of(request), now);
-    write(record, done.flash);
+    let done = perform(
+        flash,
+        memory.array,
+        memory.charges,
+        events,
+        call_of(request),
+        now,
+    );
+    write(memory.record, done.flash);
     Ok(Answer {
         value: done.value,
         count: done.count,

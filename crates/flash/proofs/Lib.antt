@@ -1,6 +1,5 @@
 pub mod Answers
 pub mod Fresh
 pub mod Inside
-pub mod Look
 pub mod Performs
 pub mod Room

@@ -1,8 +1,7 @@
 -- Memory that is refused neither by 2 nor by 3 fits: its lengths, its slots, and a pulse and a pending sense that lie inside the array.
 -- Assumes nothing.
-use mathlib.Core.Path.{◌≡◌, refl}
+use mathlib.Core.Path.{◌≡◌, refl, ap, subst, ◌∙◌}
 use mathlib.Core.Bool.{Bool, true, false, cond, not, ◌||◌, true≢false}
-use Rattle.std.specs.Prelude.{Result, Ok, Err, IfOk}
 use Prim.Native.Nat.{ℕ, ◌+◌, ◌≤◌}
 use native.Mathlib.Omega.{arith}
 use lib.Dec.{eqb}
@@ -12,10 +11,10 @@ use Rattle.cell.specs.Cell.{array_bytes, array_cells}
 use Rattle.control.specs.declared.PendingSense.{PendingSense}
 use Rattle.std.specs.Prelude.{Option, Some, None}
 use Rattle.settle.specs.Settling.{sense_address}
-use Rattle.refusal.specs.declared.Refusal.{Refusal}
-use Rattle.refusal.specs.Refusal.{Answers}
 use Rattle.flash.specs.declared.Flash.{Flash}
-use Rattle.flash.specs.Chip.{Fit}
+use Rattle.flash.specs.declared.held.Held.{Held}
+use Rattle.flash.specs.Chip.{Chip, Fit}
+use Rattle.flash.specs.Views.{chip_of}
 use Rattle.layout.specs.Layout.{record_length, accepted, decoded}
 use Rattle.layout.specs.Whole.{PendingSound}
 use Rattle.layout.proofs.Back.{decoded-index}
@@ -56,19 +55,28 @@ fitted m s a =
       sense_inside = sense_inside (decoded m.bytes).registers.verify_pending sound.pending;
     }
 
--- with the lengths, the state of a record that is accepted fits
-pub opens : (m : Memory) (r : Result Flash Refusal) → misfits m ≡ false → Answers (register_refusal m.bytes) (decoded m.bytes) r
-    → IfOk r (λ s. Fit (record { flash = s; array = m.array; charges = m.charges }))
+-- with the lengths, the state of a record that is not refused fits
+pub opens : (m : Memory) (s : Flash) → misfits m ≡ false → register_refusal m.bytes ≡ 0 → s ≡ decoded m.bytes
+    → Fit (record { flash = s; array = m.array; charges = m.charges })
 unfolding register_refusal
-opens m (Err _) e a = tt
-opens m (Ok s) e a =
+opens m s e z d =
     let sizes = sizes-fit (length m.bytes) (length m.array) (length m.charges) e in
-    rw a.1 (fitted m sizes (by (accepted m.bytes) (record_misfits m.bytes) refl a.0))
+    rw d (fitted m sizes (by (accepted m.bytes) (record_misfits m.bytes) refl z))
   where
     by : (x y : Bool) → accepted m.bytes ≡ x → ◌≡◌ {A = ℕ} (cond y 2 (cond (not x) 3 0)) 0 → accepted m.bytes ≡ true
     by true y h z = h
     by false true h z = absurd (omega (arith, z))
     by false false h z = absurd (omega (arith, z))
+
+-- what holds of a flash that was opened in some memory
+pub record Holds (held : Held) (m : Memory) : Type 0 where
+  pub flash_is : held.flash ≡ decoded m.bytes
+  pub fits : Fit (record { flash = held.flash; array = m.array; charges = m.charges })
+
+pub holds : (held : Held) (seen m : Memory) → seen ≡ m → chip_of held ≡ chip_in seen → Holds held m
+holds held seen m s e =
+    let f : held.flash ≡ decoded m.bytes = ap (λ (k : Chip). k.flash) e ∙ ap (λ (x : Memory). decoded x.bytes) s in
+    record { flash_is = f; fits = rw f (subst (λ (k : Chip). Fit k) (e ∙ ap chip_in s) held.fit) }
 
 -- memory that a call or look begins on
 pub memory-taken : (m : Memory) → memory_refusal m ≡ 0 → (misfits m ≡ false) × (accepted m.bytes ≡ true)

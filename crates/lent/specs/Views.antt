@@ -1,9 +1,14 @@
 -- The memory behind what is lent.
 -- Assumes nothing.
-use Rattle.std.specs.Prelude.{◌≡◌}
+use Rattle.std.specs.Prelude.{ℕ, ◌≡◌, List, Result, Ok, Err}
+use Rattle.refusal.specs.declared.Refusal.{Refusal}
+use Rattle.refusal.specs.Refusal.{number}
+use Rattle.flash.specs.declared.held.Held.{Held}
+use Rattle.flash.specs.Views.{chip_of}
 use Rattle.lent.specs.declared.memory.Lent.{Lent}
 use Rattle.lent.specs.declared.memory.LentMut.{LentMut}
-use Rattle.lent.specs.Memory.{Memory}
+use Rattle.lent.specs.Memory.{Memory, chip_in}
+use Rattle.lent.specs.Asked.{Outcome, Told}
 
 abbrev pub memory_in : Lent → Memory
 memory_in lent = record { bytes = lent.«record».now; array = lent.array.now; charges = lent.charges.now }
@@ -17,3 +22,12 @@ pub record SameLent (old new : LentMut) : Type 0 where
   pub same_record : new.«record».ghost_name ≡ old.«record».ghost_name
   pub same_array : new.array.ghost_name ≡ old.array.ghost_name
   pub same_charges : new.charges.ghost_name ≡ old.charges.ghost_name
+
+-- Opening gives the chip in memory, or a refusal with a number.
+abbrev pub Opens : ℕ → Memory → Result Held Refusal → Type 0
+Opens refusal m (Ok held) = (refusal ≡ 0) × (chip_of held ≡ chip_in m)
+Opens refusal m (Err r) = number r ≡ refusal
+
+-- what a call leaves in lent memory, of its outcome
+abbrev pub Leaves : Outcome → ℕ → ℕ → LentMut → List ℕ → Type 0
+Leaves o number count lent events = Told o number count lent.«record».now lent.array.now lent.charges.now events

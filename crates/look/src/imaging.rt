@@ -1,96 +1,71 @@
 // Looking at a time: the bytes of the image, one, a page's and all.
-ghost use Rattle.std.specs.Prelude.{◌≡◌, true, ◌<◌, ◌≤◌, ◌+◌, ◌*◌, length, take, drop};
+ghost use Rattle.std.specs.Prelude.{◌≡◌, ◌<◌, ◌≤◌, ◌+◌, ◌-◌, ◌*◌, length, take, drop, Some};
 ghost use Rattle.std.proofs.lemmas.List.Edits.{sets};
-ghost use Rattle.time.specs.Raw.{span};
 ghost use Rattle.cell.specs.declared.Sense.TheVariants.{Normal};
-ghost use Rattle.cell.specs.Cell.{array_bytes, array_cells, page_bytes, pages, at, mapi, ceiling_table};
-ghost use Rattle.settle.specs.Pages.{slots_sound};
-ghost use Rattle.settle.specs.Settling.{expose};
-ghost use Rattle.flash.specs.Chip.{Fit};
-ghost use Rattle.flash.specs.Looking.{exposed_by, all_blank, peek_at, blank_at, image_at};
+ghost use Rattle.cell.specs.Cell.{array_bytes, page_bytes, at, tabulate};
+ghost use Rattle.settle.specs.Pages.{cell_at};
+ghost use Rattle.settle.specs.Views.{cells_in, exposed};
+ghost use Rattle.flash.specs.Looking.{all_blank, peek_at, blank_at, image_at};
+ghost use Rattle.flash.specs.Views.{chip_of};
 
-use crate::looking::{exposed_by, reaches, view_at};
-use cell::{PAGE, PAGES, Sense};
-use flash::Flash;
-use registers::Pulse;
-use sensing::{ceilings, sense_byte};
-use settle::pages::byte_cells;
-use time::{Duration, Time};
+use crate::looking::{charge_after, exposure_at};
+use cell::{FLASH_SIZE, PAGE, PAGES, Sense};
+use flash::held::Held;
+use sensing::limits::Ceilings;
+use settle::cells::CellsRef;
+use settle::exposure::Exposure;
+use time::Time;
 
-// The charges of the eight cells at an address after an exposure.
-fn exposed_cells(
-    pulse: Pulse,
-    latch: &[u8; PAGE],
-    exposure: Duration,
-    address: usize,
-    cells: [u64; 8],
-) -> [u64; 8]
+// The charges of the eight cells of the byte at an address after an exposure.
+fn charges_after(cells: CellsRef, exposure: Option<Exposure>, address: usize) -> [u64; 8]
     requires { address < array_bytes }
-    ensures { result ≡ mapi (λ k q. exposed_by pulse latch.now (span exposure) (8 * address + k) q) 0 cells }
+    ensures { result ≡ tabulate (λ k. cell_at (exposed exposure.entry (cells_in cells.entry)) (8 * address + k)) 8 }
 {
-    let mut all = cells;
+    let mut charges = [0u64; 8];
     for k in 0..8 {
-        all[k] = exposed_by(pulse, latch, exposure, 8 * address + k, all[k]);
+        charges[k] = charge_after(cells, exposure, 8 * address + k);
     }
-    all
+    charges
 }
 
-// The byte at an address after an exposure: sensed where the exposure reaches, else the stored one.
-fn image_byte(
-    indices: &[u16],
-    array: &[u8],
-    charges: &[u64],
-    limits: &[u64; 256],
-    pulse: Pulse,
-    latch: &[u8; PAGE],
-    exposure: Duration,
+// The byte at an address after an exposure: sensed where it covers the page, else the stored one.
+fn byte_after(
+    cells: CellsRef,
+    exposure: Option<Exposure>,
+    ceilings: &Ceilings,
     address: usize,
 ) -> u8
-    requires { (length indices.now ≡ pages) × (slots_sound indices.now ≡ true) × (length array.now ≡ array_bytes) × (length charges.now ≡ array_cells) × (limits.now ≡ ceiling_table Normal) × (address < array_bytes) }
-    ensures { result ≡ at (expose pulse latch.now (span exposure) (record { index = indices.now; array = array.now; charges = charges.now })).array address }
+    requires { (ceilings.now.sense ≡ Normal) × (address < array_bytes) }
+    ensures { result ≡ at (exposed exposure.entry (cells_in cells.entry)).array address }
 {
-    if !reaches(pulse, exposure, address / PAGE) {
-        return array[address];
+    let Some(reaching) = exposure else {
+        return cells.array[address];
+    };
+    if !reaching.covers(address / PAGE) {
+        return cells.array[address];
     }
-    let cells = byte_cells(indices, array, charges, address);
-    let moved = exposed_cells(pulse, latch, exposure, address, cells);
-    sense_byte(Sense::Normal, limits, address, &moved)
+    let charges = charges_after(cells, exposure, address);
+    ceilings.sense_byte(address, &charges)
 }
 
 // The byte at an address at a time.
-pub fn peek(flash: Flash, array: &[u8], charges: &[u64], address: usize, time: Time) -> u8
-    requires { Fit (record { flash = flash; array = array.now; charges = charges.now }) × (address < array_bytes) }
-    ensures { result ≡ peek_at time (record { flash = flash; array = array.now; charges = charges.now }) address }
+#[tactic(auto, unfolding(flash::specs::Looking::peek_at, flash::specs::Looking::image_at))]
+pub fn peek(held: &Held, address: usize, time: Time) -> u8
+    requires { address < array_bytes }
+    ensures { result ≡ peek_at time (chip_of held.now) address }
 {
-    let registers = flash.registers;
-    let indices = flash.indices;
-    let latch = registers.latch;
-    let view = view_at(registers, flash.pulse_since, time);
-    let pulse = view.pulse;
-    let exposure = view.exposure;
-    let limits = ceilings(Sense::Normal);
-    image_byte(
-        &indices, array, charges, &limits, pulse, &latch, exposure, address,
-    )
+    let ceilings = Ceilings::of(Sense::Normal);
+    byte_after(held.cells(), exposure_at(held, time), &ceilings, address)
 }
 
 // Whether the 128 bytes from `start` on all read FF after an exposure.
-fn all_blank(
-    indices: &[u16],
-    array: &[u8],
-    charges: &[u64],
-    pulse: Pulse,
-    latch: &[u8; PAGE],
-    exposure: Duration,
-    start: usize,
-) -> bool
-    requires { (length indices.now ≡ pages) × (slots_sound indices.now ≡ true) × (length array.now ≡ array_bytes) × (length charges.now ≡ array_cells) × (start + page_bytes ≤ array_bytes) }
-    ensures { result ≡ all_blank page_bytes start (expose pulse latch.now (span exposure) (record { index = indices.now; array = array.now; charges = charges.now })).array }
+fn all_blank(cells: CellsRef, exposure: Option<Exposure>, start: usize) -> bool
+    requires { start + page_bytes ≤ array_bytes }
+    ensures { result ≡ all_blank page_bytes start (exposed exposure.entry (cells_in cells.entry)).array }
 {
-    let limits = ceilings(Sense::Normal);
+    let ceilings = Ceilings::of(Sense::Normal);
     for i in 0..PAGE {
-        let a = start + i;
-        let byte = image_byte(indices, array, charges, &limits, pulse, latch, exposure, a);
+        let byte = byte_after(cells, exposure, &ceilings, start + i);
         if byte != 0xFF {
             return false;
         }
@@ -99,86 +74,65 @@ fn all_blank(
 }
 
 // Whether the page of an address is blank at a time.
-pub fn blank_page(flash: Flash, array: &[u8], charges: &[u64], address: usize, time: Time) -> bool
-    requires { Fit (record { flash = flash; array = array.now; charges = charges.now }) × (address < array_bytes) }
-    ensures { result ≡ blank_at time (record { flash = flash; array = array.now; charges = charges.now }) address }
+#[tactic(auto, unfolding(flash::specs::Looking::blank_at, flash::specs::Looking::image_at))]
+pub fn blank_page(held: &Held, address: usize, time: Time) -> bool
+    requires { address < array_bytes }
+    ensures { result ≡ blank_at time (chip_of held.now) address }
 {
-    let registers = flash.registers;
-    let indices = flash.indices;
-    let latch = registers.latch;
-    let view = view_at(registers, flash.pulse_since, time);
-    let pulse = view.pulse;
-    let exposure = view.exposure;
     let start = address / PAGE * PAGE;
-    all_blank(&indices, array, charges, pulse, &latch, exposure, start)
+    all_blank(held.cells(), exposure_at(held, time), start)
 }
 
-// The stored bytes of the page that begins at `start`, into `out`.
-fn write_stored(array: &[u8], start: usize, out: &mut [u8])
-    requires { (start + page_bytes ≤ length array.now) × (start + page_bytes ≤ length out.old) }
-    ensures { out.new ≡ sets out.old start (take page_bytes (drop start array.now)) }
+// The stored bytes from `start` to `end`, into `out`.
+fn write_stored(array: &[u8], start: usize, end: usize, out: &mut [u8])
+    requires { (start ≤ end) × (end ≤ length array.now) × (end ≤ length out.old) }
+    ensures { out.new ≡ sets out.old start (take (end - start) (drop start array.now)) }
 {
-    let end = start + PAGE;
     out[start..end].copy_from_slice(&array[start..end]);
 }
 
 // The bytes of the page that begins at `start` after an exposure, into `out`.
 fn write_exposed(
-    indices: &[u16],
-    array: &[u8],
-    charges: &[u64],
-    limits: &[u64; 256],
-    pulse: Pulse,
-    latch: &[u8; PAGE],
-    exposure: Duration,
+    cells: CellsRef,
+    exposure: Exposure,
+    ceilings: &Ceilings,
     start: usize,
     out: &mut [u8],
 )
-    requires { (length indices.now ≡ pages) × (slots_sound indices.now ≡ true) × (length array.now ≡ array_bytes) × (length charges.now ≡ array_cells) × (limits.now ≡ ceiling_table Normal) × (start + page_bytes ≤ array_bytes) × (array_bytes ≤ length out.old) }
-    ensures { out.new ≡ sets out.old start (take page_bytes (drop start (expose pulse latch.now (span exposure) (record { index = indices.now; array = array.now; charges = charges.now })).array)) }
+    requires { (ceilings.now.sense ≡ Normal) × (start + page_bytes ≤ array_bytes) × (array_bytes ≤ length out.old) }
+    ensures { out.new ≡ sets out.old start (take page_bytes (drop start (exposed (Some exposure.entry) (cells_in cells.entry)).array)) }
 {
     for i in 0..PAGE {
-        let a = start + i;
-        out[a] = image_byte(indices, array, charges, limits, pulse, latch, exposure, a);
+        let address = start + i;
+        out[address] = byte_after(cells, Some(exposure), ceilings, address);
     }
 }
 
-// The bytes after an exposure, into `out`: a page that the exposure does not reach is copied.
-fn write_image(
-    indices: &[u16],
-    array: &[u8],
-    charges: &[u64],
-    pulse: Pulse,
-    latch: &[u8; PAGE],
-    exposure: Duration,
-    out: &mut [u8],
-)
-    requires { (length indices.now ≡ pages) × (slots_sound indices.now ≡ true) × (length array.now ≡ array_bytes) × (length charges.now ≡ array_cells) × (array_bytes ≤ length out.old) }
-    ensures { out.new ≡ sets out.old 0 (expose pulse latch.now (span exposure) (record { index = indices.now; array = array.now; charges = charges.now })).array }
+// The bytes after an exposure, into `out`: a page that it does not cover is copied.
+fn write_image(cells: CellsRef, exposure: Exposure, out: &mut [u8])
+    requires { array_bytes ≤ length out.old }
+    ensures { out.new ≡ sets out.old 0 (exposed (Some exposure.entry) (cells_in cells.entry)).array }
 {
-    let limits = ceilings(Sense::Normal);
+    let ceilings = Ceilings::of(Sense::Normal);
     for page in 0..PAGES {
         let start = page * PAGE;
-        if reaches(pulse, exposure, page) {
-            write_exposed(
-                indices, array, charges, &limits, pulse, latch, exposure, start, out,
-            );
+        if exposure.covers(page) {
+            write_exposed(cells, exposure, &ceilings, start, out);
         } else {
-            write_stored(array, start, out);
+            write_stored(cells.array, start, start + PAGE, out);
         }
     }
 }
 
 // The image at a time, into `out`, whose bytes past it stay.
-pub fn image(flash: Flash, array: &[u8], charges: &[u64], time: Time, out: &mut [u8])
-    requires { Fit (record { flash = flash; array = array.now; charges = charges.now }) × (array_bytes ≤ length out.old) }
-    ensures { out.new ≡ sets out.old 0 (image_at time (record { flash = flash; array = array.now; charges = charges.now })) }
+#[tactic(auto, unfolding(flash::specs::Looking::image_at))]
+pub fn image(held: &Held, time: Time, out: &mut [u8])
+    requires { array_bytes ≤ length out.old }
+    ensures { out.new ≡ sets out.old 0 (image_at time (chip_of held.now)) }
 {
-    let registers = flash.registers;
-    let indices = flash.indices;
-    let latch = registers.latch;
-    let view = view_at(registers, flash.pulse_since, time);
-    let pulse = view.pulse;
-    let exposure = view.exposure;
-    write_image(&indices, array, charges, pulse, &latch, exposure, out);
+    let Some(exposure) = exposure_at(held, time) else {
+        write_stored(held.array, 0, FLASH_SIZE, out);
+        return;
+    };
+    write_image(held.cells(), exposure, out);
 }

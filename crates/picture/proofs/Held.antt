@@ -2,21 +2,11 @@
 -- Assumes nothing.
 use mathlib.Core.Path.{◌≡◌, sym, ◌∙◌}
 use mathlib.Core.Bool.{true, ◌||◌}
-use mathlib.Core.List.{List}
 use Prim.Native.Nat.{ℕ, suc, ◌+◌, ◌-◌, ◌<◌}
 use native.Mathlib.Omega.{arith}
 use lib.Dec.{ltb}
 use borrow.Author.Tests.{lt-ltb}
-use Rattle.time.specs.declared.Duration.{Duration}
-use Rattle.time.specs.Raw.{span}
-use Rattle.registers.specs.declared.Pulse.{Pulse}
-use Rattle.settle.specs.Pages.{Cells}
-use Rattle.settle.specs.Settling.{expose}
 use Rattle.picture.specs.Marks.{holds_charge}
-
--- page index, array and charges after an exposure, from what is lent
-abbrev pub after : List ℕ → List ℕ → List ℕ → Pulse → List ℕ → Duration → Cells
-after index array charges p latch d = expose p latch (span d) (record { index = index; array = array; charges = charges })
 
 pub holds-turn : (q : ℕ → ℕ) (start i : ℕ) → i < 1024
     → holds_charge q (1024 - i) (start + i) ≡ (ltb 0 (q (start + i)) || holds_charge q (1024 - (i + 1)) (start + (i + 1)))

@@ -3,25 +3,25 @@
 
 ghost use Rattle.refusal.specs.Refusal.{told};
 ghost use Rattle.lent.specs.Asked.{value_of, count_of};
+ghost use Rattle.lent.specs.Views.{memory_at, SameLent};
 ghost use Rattle.listing.specs.Replaying.{asks, Replays};
 
 use coding::write;
 use lent::Answer;
-use lent::opening::opened;
+use lent::memory::LentMut;
 use listing::Replayed;
 use running::run;
 
 // The calls from..to, up to one that is refused, gives event words or reads. Past the list's end there is nothing to do.
 pub fn replay(
-    record: &mut [u8],
-    array: &mut [u8],
-    charges: &mut [u64],
+    memory: &mut LentMut,
     events: &mut [u64],
     calls: &[u64],
     from: usize,
     to: usize,
 ) -> Replayed
-    ensures { Replays from (asks from to calls.now events.old (record { bytes = «record».old; array = array.old; charges = charges.old })) events.old (record { bytes = «record».old; array = array.old; charges = charges.old }) result.done (told result.last) (value_of result.last) (count_of result.last) «record».new array.new charges.new events.new }
+    ensures same { SameLent memory.old memory.new }
+    ensures done { Replays from (asks from to calls.now events.old (memory_at memory.old)) events.old (memory_at memory.old) result.done (told result.last) (value_of result.last) (count_of result.last) memory.new.«record».now memory.new.array.now memory.new.charges.now events.new }
 {
     let end = to.min(calls.len() / 3);
     if end <= from {
@@ -30,10 +30,19 @@ pub fn replay(
             last: Ok(Answer::default()),
         };
     }
-    match opened(record, array, charges) {
-        Ok(mut flash) => {
-            let ran = run(&mut flash, array, charges, events, calls, from, end);
-            write(record, flash);
+    match memory.seen().opened() {
+        Ok(held) => {
+            let mut flash = held.flash;
+            let ran = run(
+                &mut flash,
+                memory.array,
+                memory.charges,
+                events,
+                calls,
+                from,
+                end,
+            );
+            write(memory.record, flash);
             ran
         }
         Err(refusal) => Replayed {

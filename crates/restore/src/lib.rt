@@ -3,10 +3,11 @@
 
 pub mod loading;
 
-ghost use Rattle.std.specs.Prelude.{◌≡◌, length};
-ghost use Rattle.cell.specs.Cell.{pages, array_bytes, array_cells};
+ghost use Rattle.std.specs.Prelude.{◌≡◌, false};
+ghost use Rattle.cell.specs.Cell.{pages};
 ghost use Rattle.flash.specs.Chip.{no_pages};
-ghost use Rattle.layout.specs.Layout.{record_length};
+ghost use Rattle.lent.specs.Memory.{misfits};
+ghost use Rattle.lent.specs.Views.{memory_at, SameLent};
 ghost use Rattle.refusal.specs.Refusal.{told};
 ghost use Rattle.snapshot.specs.Asked.{read_refusal, memory_read, Left};
 ghost use Rattle.snapshot.specs.Places.{pages_place, count_in, pages_index, scan_number, place_judged, place_read};
@@ -16,6 +17,7 @@ use cell::{FLASH_SIZE, PAGES};
 use coding::write;
 use lent::checking::{last_second, sizes_misfit};
 use lent::making::copy;
+use lent::memory::LentMut;
 use refusal::Refusal;
 use scan::{count_in, scan, state_length};
 use snapshot::page_at;
@@ -26,13 +28,13 @@ use validity::valid;
 fn take(
     bytes: &[u8],
     indices: [u16; PAGES],
-    record: &mut [u8],
-    array: &mut [u8],
-    charges: &mut [u64],
+    memory: &mut LentMut,
     time: Time,
 ) -> Result<(), Refusal>
-    requires { (scan_number bytes.now ≡ 0) × (indices ≡ pages_index (count_in bytes.now) 0 (no_pages pages) bytes.now pages_place) × (length «record».old ≡ record_length) × (length array.old ≡ array_bytes) × (length charges.old ≡ array_cells) }
-    ensures { (told result ≡ place_judged time bytes.entry.now) × Left (place_read (told result) bytes.entry.now (record { bytes = «record».old; array = array.old; charges = charges.old })) «record».new array.new charges.new }
+    requires { (scan_number bytes.now ≡ 0) × (indices ≡ pages_index (count_in bytes.now) 0 (no_pages pages) bytes.now pages_place) × (misfits (memory_at memory.old) ≡ false) }
+    ensures same { SameLent memory.old memory.new }
+    ensures judged { told result ≡ place_judged time bytes.entry.now }
+    ensures left { Left (place_read (told result) bytes.entry.now (memory_at memory.old)) memory.new.«record».now memory.new.array.now memory.new.charges.now }
 {
     let count = count_in(bytes);
     let at = page_at(count);
@@ -43,28 +45,28 @@ fn take(
     if !valid(time, flash) {
         return Err(Refusal::Invalid);
     }
-    copy(&bytes[0..FLASH_SIZE], array);
-    load_pages(bytes, count, charges);
-    write(record, flash);
+    copy(&bytes[0..FLASH_SIZE], memory.array);
+    load_pages(bytes, count, memory.charges);
+    write(memory.record, flash);
     Ok(())
 }
 
 // A refusal leaves all as it was.
-pub fn read_snapshot(
-    bytes: &[u8],
-    record: &mut [u8],
-    array: &mut [u8],
-    charges: &mut [u64],
-    time: Time,
-) -> Result<(), Refusal>
-    ensures { (told result ≡ read_refusal time bytes.entry.now (record { bytes = «record».old; array = array.old; charges = charges.old })) × Left (memory_read (told result) bytes.entry.now (record { bytes = «record».old; array = array.old; charges = charges.old })) «record».new array.new charges.new }
+pub fn read_snapshot(bytes: &[u8], memory: &mut LentMut, time: Time) -> Result<(), Refusal>
+    ensures same { SameLent memory.old memory.new }
+    ensures refused { told result ≡ read_refusal time bytes.entry.now (memory_at memory.old) }
+    ensures left { Left (memory_read (told result) bytes.entry.now (memory_at memory.old)) memory.new.«record».now memory.new.array.now memory.new.charges.now }
 {
-    if sizes_misfit(record.len(), array.len(), charges.len()) {
+    if sizes_misfit(
+        memory.record.len(),
+        memory.array.len(),
+        memory.charges.len(),
+    ) {
         return Err(Refusal::Memory);
     }
     if last_second(time) {
         return Err(Refusal::LastSecond);
     }
     let indices = scan(bytes)?;
-    take(bytes, indices, record, array, charges, time)
+    take(bytes, indices, memory, time)
 }

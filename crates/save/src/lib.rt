@@ -1,11 +1,13 @@
 // Writing a snapshot.
 #![tactic(auto)]
 
-ghost use Rattle.std.specs.Prelude.{◌≡◌, true, [], ◌++◌, ℕ, suc, ◌+◌, ◌*◌, ◌<◌, ◌≤◌, length, take};
-ghost use Rattle.cell.specs.Cell.{at, pages, array_bytes, array_cells};
-ghost use Rattle.settle.specs.Pages.{opened, slots_sound};
+ghost use Rattle.std.specs.Prelude.{◌≡◌, [], ◌++◌, ℕ, suc, ◌+◌, ◌*◌, ◌<◌, ◌≤◌, length, take};
+ghost use Rattle.cell.specs.Cell.{at, pages};
+ghost use Rattle.settle.specs.Pages.{opened};
 ghost use Rattle.layout.specs.Layout.{option_byte};
+ghost use Rattle.flash.specs.Views.{chip_of};
 ghost use Rattle.lent.specs.Memory.{chip_in};
+ghost use Rattle.lent.specs.Views.{memory_in};
 ghost use Rattle.refusal.specs.Refusal.{told, Answers};
 ghost use Rattle.borsh.specs.Borsh.{write_all};
 ghost use Rattle.snapshot.specs.Snapshot.{charge_page, slot_pages, place_of, state, controls, latched, supplies, instants, pending, state_fields, snapshot_of, snapshot_length};
@@ -15,7 +17,8 @@ ghost use Rattle.snapshot.specs.Places.{pages_place, page_at};
 use cell::{PAGE, PAGE_CELLS, PAGES};
 use control::PendingSense;
 use flash::Flash;
-use lent::opening;
+use flash::held::Held;
+use lent::memory::Lent;
 use refusal::Refusal;
 use rows::numbers::Number;
 use rows::put_row;
@@ -23,13 +26,12 @@ use settle::pages::opened;
 use snapshot::{COUNT, PAGE_LEN, page_at};
 
 // The address of the page that has each slot. From the last page down, so that the first page with a slot stays.
-fn owners(indices: &[u16]) -> [u16; PAGES]
-    requires { (length indices.now ≡ pages) × (slots_sound indices.now ≡ true) }
-    ensures { (s : ℕ) → s < opened indices.now → at result s ≡ place_of (suc s) indices.now * 128 }
+fn owners(held: &Held) -> [u16; PAGES]
+    ensures { (s : ℕ) → s < opened held.now.flash.indices → at result s ≡ place_of (suc s) held.now.flash.indices * 128 }
 {
     let mut found = [0u16; PAGES];
     for i in (0..PAGES).rev() {
-        let entry = usize::from(indices[i]);
+        let entry = usize::from(held.flash.indices[i]);
         if entry != 0 {
             found[entry - 1] = (i * PAGE) as u16;
         }
@@ -38,16 +40,16 @@ fn owners(indices: &[u16]) -> [u16; PAGES]
 }
 
 // The charge pages in slot order, after what stands before them.
-fn put_pages(out: &mut [u8], indices: &[u16], charges: &[u64], count: usize)
-    requires { (length indices.now ≡ pages) × (slots_sound indices.now ≡ true) × (count ≡ opened indices.now) × (length charges.now ≡ array_cells) × (page_at count ≤ length out.old) }
-    ensures { take (page_at count) out.new ≡ take pages_place out.old ++ write_all (charge_page []).write (slot_pages count 0 indices.now charges.now) }
+fn put_pages(out: &mut [u8], held: &Held, count: usize)
+    requires { (count ≡ opened held.now.flash.indices) × (page_at count ≤ length out.old) }
+    ensures { take (page_at count) out.new ≡ take pages_place out.old ++ write_all (charge_page []).write (slot_pages count 0 held.now.flash.indices held.now.charges.now) }
 {
-    let owners = owners(indices);
+    let owners = owners(held);
     for slot in 0..count {
         let from = slot * PAGE_CELLS;
         let to = from + PAGE_CELLS;
         owners[slot].put(out, page_at(slot));
-        put_row(out, page_at(slot) + 2, &charges[from..to]);
+        put_row(out, page_at(slot) + 2, &held.charges[from..to]);
     }
 }
 
@@ -162,33 +164,28 @@ fn snapshot_length(count: usize, sense: Option<PendingSense>) -> usize
 }
 
 // The snapshot fills the whole of the output.
-fn fill(out: &mut [u8], flash: Flash, array: &[u8], charges: &[u64], count: usize)
-    requires { (length array.now ≡ array_bytes) × (length charges.now ≡ array_cells) × (length flash.indices ≡ pages) × (slots_sound flash.indices ≡ true) × (count ≡ opened flash.indices) × (length out.old ≡ snapshot_length count flash.registers.verify_pending) }
-    ensures { out.new ≡ snapshot_of (record { flash = flash; array = array.now; charges = charges.now }) }
+fn fill(out: &mut [u8], held: &Held, count: usize)
+    requires { (count ≡ opened held.now.flash.indices) × (length out.old ≡ snapshot_length count held.now.flash.registers.verify_pending) }
+    ensures { out.new ≡ snapshot_of (chip_of held.now) }
 {
-    put_row(out, 0, array);
+    put_row(out, 0, held.array);
     let number = count as u32;
     number.put(out, COUNT);
-    put_pages(out, &flash.indices, charges, count);
-    put_state(out, page_at(count), flash);
+    put_pages(out, held, count);
+    put_state(out, page_at(count), held.flash);
 }
 
 // The snapshot stands at the beginning of the output, and the answer is its length; what is past it stays.
-pub fn write_snapshot(
-    record: &[u8],
-    array: &[u8],
-    charges: &[u64],
-    out: &mut [u8],
-) -> Result<usize, Refusal>
-    ensures answer { Answers (write_refusal (length out.old) (record { bytes = «record».now; array = array.now; charges = charges.now })) (length (snapshot_of (chip_in (record { bytes = «record».now; array = array.now; charges = charges.now })))) result }
-    ensures out { out.new ≡ written_out (told result) (record { bytes = «record».now; array = array.now; charges = charges.now }) out.old }
+pub fn write_snapshot(lent: Lent, out: &mut [u8]) -> Result<usize, Refusal>
+    ensures answer { Answers (write_refusal (length out.old) (memory_in lent.entry)) (length (snapshot_of (chip_in (memory_in lent.entry)))) result }
+    ensures out { out.new ≡ written_out (told result) (memory_in lent.entry) out.old }
 {
-    let flash = opening::opened(record, array, charges)?;
-    let count = opened(&flash.indices);
-    let length = snapshot_length(count, flash.registers.verify_pending);
+    let held = lent.opened()?;
+    let count = opened(&held.flash.indices);
+    let length = snapshot_length(count, held.flash.registers.verify_pending);
     if out.len() < length {
         return Err(Refusal::Output);
     }
-    fill(&mut out[0..length], flash, array, charges, count);
+    fill(&mut out[0..length], &held, count);
     Ok(length)
 }

@@ -11,6 +11,7 @@ ghost use Rattle.lent.specs.Looked.{register_refusal, register_answer, normal_re
 
 use access::register;
 use cell::FLASH_SIZE;
+use flash::held::Held;
 use lent::checking::{in_time, past_end};
 use lent::opening::{opened_at, opened_record};
 use look::imaging::{blank_page, image, peek};
@@ -50,7 +51,12 @@ pub fn see_byte(
     ensures { Answers (peek_refusal address time (record { bytes = «record».now; array = array.now; charges = charges.now })) (peek_answer address time (record { bytes = «record».now; array = array.now; charges = charges.now })) result }
 {
     let flash = opened_at(record, array, charges, past_end(address), time)?;
-    Ok(peek(flash, array, charges, address as usize, time))
+    let held = Held {
+        flash,
+        array,
+        charges,
+    };
+    Ok(peek(&held, usize::from(address), time))
 }
 
 // A cell's charge at a time.
@@ -67,8 +73,13 @@ pub fn see_charge(
 {
     let misplaced = past_end(address) | (7 < bit);
     let flash = opened_at(record, array, charges, misplaced, time)?;
-    let cell = 8 * (address as usize) + bit as usize;
-    Ok(cell_charge(flash, array, charges, cell, time))
+    let held = Held {
+        flash,
+        array,
+        charges,
+    };
+    let cell = 8 * usize::from(address) + usize::from(bit);
+    Ok(cell_charge(&held, cell, time))
 }
 
 // Whether the page of an address is blank at a time.
@@ -83,7 +94,12 @@ pub fn see_blank(
     ensures { Answers (blank_refusal address time (record { bytes = «record».now; array = array.now; charges = charges.now })) (blank_at time (chip_in (record { bytes = «record».now; array = array.now; charges = charges.now })) address) result }
 {
     let flash = opened_at(record, array, charges, past_end(address), time)?;
-    Ok(blank_page(flash, array, charges, address as usize, time))
+    let held = Held {
+        flash,
+        array,
+        charges,
+    };
+    Ok(blank_page(&held, usize::from(address), time))
 }
 
 // The image at a time, written to the output.
@@ -101,6 +117,11 @@ pub fn see_image(
     if out.len() < FLASH_SIZE {
         return Err(Refusal::Output);
     }
-    image(flash, array, charges, time, out);
+    let held = Held {
+        flash,
+        array,
+        charges,
+    };
+    image(&held, time, out);
     Ok(())
 }

@@ -15,6 +15,7 @@ use crate::judging::put_judged;
 use crate::mapping::put_map;
 use crate::paging::put_pages;
 use cell::{FLASH_SIZE, PAGES};
+use lent::memory::Lent;
 use picture::see_marks;
 use refusal::Refusal;
 use see::see_image;
@@ -85,7 +86,12 @@ fn marks_for(
 {
     let mut marks = [0u8; PAGES];
     if map {
-        see_marks(record, array, charges, time, &mut marks)?;
+        let lent = Lent {
+            record,
+            array,
+            charges,
+        };
+        see_marks(lent, time, &mut marks)?;
     }
     Ok(marks)
 }

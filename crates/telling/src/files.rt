@@ -3,6 +3,7 @@ use crate::Told;
 use crate::saying::say_not_written;
 use cell::CELLS;
 use drafts::{discard, draft, keep};
+use lent::memory::Lent;
 use picture::see_shades;
 use report::picture_head;
 use save::write_snapshot;
@@ -61,7 +62,12 @@ pub fn picture_drafted<R: Files, S: Print>(
     if path.is_empty() {
         return Ok(());
     }
-    see_shades(record, array, charges, time, buffer).map_err(|_| unwritten(says, path))?;
+    let lent = Lent {
+        record,
+        array,
+        charges,
+    };
+    see_shades(lent, time, buffer).map_err(|_| unwritten(says, path))?;
     let mut head = [0u8; HEAD];
     let n = picture_head(&mut head, 0);
     drafted(rt, path, says, first(&head, n), first(buffer, CELLS))

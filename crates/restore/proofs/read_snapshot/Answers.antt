@@ -1,31 +1,33 @@
+-- `restore::read_snapshot` meets its contract: a refusal by memory, time or a field is the snapshot's, and past them it is taken or
+-- refused as `take` says. Assumes nothing.
 use mathlib.Core.Path.{refl, sym, ◌∙◌}
 use Rattle.refusal.proofs.Outcomes.{passed-on}
-use Rattle.lent.proofs.Fitted.{sizes-fit}
 use Rattle.scan.proofs.Turns.{refused}
 use Rattle.restore.proofs.Taken.{sizes-refused, time-refused, scan-refused, read-by-place}
 use Rattle.restore.proofs.read_snapshot.Goals as goal
 
-pub returns-then-sizes_misfit : goal.returns-then-sizes_misfit
-returns-then-sizes_misfit c = (sizes-refused _ _ _ (sym c.sizes_misfit.ensures ∙ c.if-sizes_misfit.true), record { record_is = refl; array_is = refl; charges_are = refl })
+pub returns-then-sizes_misfit-clause-refused : goal.returns-then-sizes_misfit-clause-refused
+returns-then-sizes_misfit-clause-refused c = sizes-refused _ _ _ (sym c.sizes_misfit.ensures ∙ c.if-sizes_misfit.true)
 
-pub returns-then-last_second : goal.returns-then-last_second
-returns-then-last_second c = (
-  time-refused _ _ _ (sym c.sizes_misfit.ensures ∙ c.if-sizes_misfit.false) (sym c.last_second.ensures ∙ c.if-last_second.true),
-  record { record_is = refl; array_is = refl; charges_are = refl },
-)
+pub returns-then-last_second-clause-refused : goal.returns-then-last_second-clause-refused
+returns-then-last_second-clause-refused c =
+    time-refused _ _ _ (sym c.sizes_misfit.ensures ∙ c.if-sizes_misfit.false) (sym c.last_second.ensures ∙ c.if-last_second.true)
 
 pub returns-in_err-indices : goal.returns-in_err-indices
 returns-in_err-indices c =
-    rw (passed-on _ c.from_residual.ensures.1) (scan-refused _ _ _ (λ j. (c.type_inv.bytes j).fits) (sym c.sizes_misfit.ensures ∙ c.if-sizes_misfit.false)
-    (sym c.last_second.ensures ∙ c.if-last_second.false) _ c.in_err-indices.ensures (refused _))
+    let t =
+    scan-refused _ _ _ (λ j. (c.type_inv.bytes j).fits) (sym c.sizes_misfit.ensures ∙ c.if-sizes_misfit.false)
+    (sym c.last_second.ensures ∙ c.if-last_second.false) _ c.in_err-indices.ensures (refused _) in
+    rw (passed-on _ c.from_residual.ensures.1) (record { same = record { same_record = refl; same_array = refl; same_charges = refl }; refused = t.0; left = t.1 })
 
 pub take-requires : goal.take-requires
 take-requires c =
     let n = c.in_ok-indices.ensures in
-    let f = sizes-fit _ _ _ (sym c.sizes_misfit.ensures ∙ c.if-sizes_misfit.false) in
-    (n.0, n.1, f.record_long, f.array_long, f.charges_long)
+    (n.0, n.1, sym c.sizes_misfit.ensures ∙ c.if-sizes_misfit.false)
 
 pub returns : goal.returns
 returns c =
+    let t =
     read-by-place _ _ _ (λ j. (c.type_inv.bytes j).fits) (sym c.sizes_misfit.ensures ∙ c.if-sizes_misfit.false)
-    (sym c.last_second.ensures ∙ c.if-last_second.false) _ _ _ _ c.in_ok-indices.ensures.0 c.take.ensures.0 c.take.ensures.1
+    (sym c.last_second.ensures ∙ c.if-last_second.false) _ _ _ _ c.in_ok-indices.ensures.0 c.take.ensures.judged c.take.ensures.left in
+    record { same = c.take.ensures.same; refused = t.0; left = t.1 }

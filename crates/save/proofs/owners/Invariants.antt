@@ -6,4 +6,4 @@ use Rattle.save.proofs.Filled.{Owned}
 use Rattle.save.proofs.owners.Given as goal
 
 abbrev pub invariant-loop-i : goal.invariant-loop-i
-invariant-loop-i l = (length l.found ≡ 384) × Owned l.i l.indices l.found
+invariant-loop-i l = (length l.found ≡ 384) × Owned l.i l.held.flash.indices l.found

@@ -8,11 +8,8 @@ use Rattle.save.proofs.Filled.{page_inside, pages-none, pages-more, pages-all}
 use native.Mathlib.Omega.{arith}
 use Rattle.save.proofs.put_pages.Goals as goal
 
-pub owners-owners-requires : goal.owners-owners-requires
-owners-owners-requires c = (c.requires.0, c.requires.1)
-
 pub loop-slot-init : goal.loop-slot-init
-loop-slot-init c = let x = c.args in (omega (arith, opened-le x.indices.now), refl, pages-none x.indices.now x.charges.now x.out.now)
+loop-slot-init c = let x = c.args in (omega (arith, opened-le x.held.now.flash.indices), refl, pages-none x.held.now.flash.indices x.held.now.charges.now x.out.now)
 
 pub put-requires : goal.put-requires
 put-requires c = omega (arith, page_inside c.loop-slot.slot c.args.count (omega arith))
@@ -26,9 +23,9 @@ put_row-requires c = simp (length-take, length-drop) (omega (arith, page_inside 
 pub loop-slot-preserved : goal.loop-slot-preserved
 loop-slot-preserved c = let l = c.loop-slot in
     let x = c.args in
-    (omega arith, omega arith, pages-more x.indices.now x.charges.now l.slot c.page_at.result c.page_at-in-loop-slot.result _ l.out c.put.new.to c.put_row.new.to (take pages_place x.out.now) c.page_at.ensures c.page_at-in-loop-slot.ensures (c.owners-owners.ensures l.slot (omega arith)) (omega arith) c.put.ensures c.put_row.ensures l.invariant.2)
+    (omega arith, omega arith, pages-more x.held.now.flash.indices x.held.now.charges.now l.slot c.page_at.result c.page_at-in-loop-slot.result _ l.out c.put.new.to c.put_row.new.to (take pages_place x.out.now) c.page_at.ensures c.page_at-in-loop-slot.ensures (c.owners-owners.ensures l.slot (omega arith)) (omega arith) c.put.ensures c.put_row.ensures l.invariant.2)
 
 pub returns : goal.returns
 returns c = let l = c.loop-slot in
     let x = c.args in
-    pages-all x.indices.now x.charges.now l.slot x.count l.out (take pages_place x.out.now) (omega arith) l.invariant.2
+    pages-all x.held.now.flash.indices x.held.now.charges.now l.slot x.count l.out (take pages_place x.out.now) (omega arith) l.invariant.2

@@ -9,4 +9,4 @@ use Rattle.save.proofs.Filled.{page_run}
 use Rattle.save.proofs.put_pages.Given as goal
 
 abbrev pub invariant-loop-slot : goal.invariant-loop-slot
-invariant-loop-slot l = (l.count ≤ 384) × (length l.out ≡ length l.initial.out) × (take (page_at l.slot) l.out ≡ take pages_place l.initial.out ++ page_run l.indices l.charges l.slot 0)
+invariant-loop-slot l = (l.count ≤ 384) × (length l.out ≡ length l.initial.out) × (take (page_at l.slot) l.out ≡ take pages_place l.initial.out ++ page_run l.held.flash.indices l.held.charges.now l.slot 0)

@@ -2,30 +2,30 @@
 -- the beginning of the output. Assumes nothing.
 use lib.ListN.{length}
 use Rattle.refusal.proofs.Outcomes.{number-some, passed-on}
-use Rattle.lent.specs.Memory.{Memory}
+use Rattle.lent.specs.Views.{memory_in}
 use Rattle.save.proofs.Told.{put_front, length-written, told-first, told-8, told-none}
 use native.Mathlib.Omega.{arith}
 use Rattle.save.proofs.write_snapshot.Goals as goal
 
-pub returns-in_err-flash-clause-answer : goal.returns-in_err-flash-clause-answer
-returns-in_err-flash-clause-answer c =
-    rw (passed-on _ c.from_residual.ensures.1) (told-first _ _ c.in_err-flash.ensures.told (λ z. omega (arith, number-some c.in_err-flash.field-0.0)))
+pub returns-in_err-held-clause-answer : goal.returns-in_err-held-clause-answer
+returns-in_err-held-clause-answer c =
+    rw (passed-on _ c.from_residual.ensures.1) (told-first _ _ c.in_err-held.ensures.told (λ z. omega (arith, number-some c.in_err-held.field-0.0)))
 
 pub returns-then-out-length-clause-answer : goal.returns-then-out-length-clause-answer
 returns-then-out-length-clause-answer c =
     let x = c.args in
-    let m : Memory = record { bytes = x.«record».now; array = x.array.now; charges = x.charges.now } in
-    let o = c.in_ok-flash.ensures in
+    let m = memory_in x.lent in
+    let o = c.in_ok-held.ensures in
     let n = c.snapshot_length-length.result in
-    let e = length-written m c.in_ok-flash.flash c.opened-count.result n o.fits.array_long o.fits.charges_long (λ k. (c.type_inv.«record» k).fits) o.told.1 c.opened-count.ensures.0 c.snapshot_length-length.ensures in
+    let e = length-written m c.in_ok-held.held c.opened-count.result n o.bytes o.told.1 c.opened-count.ensures.0 c.snapshot_length-length.ensures in
     told-8 m (length x.out.now) o.told.0 n e c.if-out-length.true
 
 pub returns : goal.returns
 returns c =
     let x = c.args in
-    let m : Memory = record { bytes = x.«record».now; array = x.array.now; charges = x.charges.now } in
-    let o = c.in_ok-flash.ensures in
+    let m = memory_in x.lent in
+    let o = c.in_ok-held.ensures in
     let n = c.snapshot_length-length.result in
-    let e = length-written m c.in_ok-flash.flash c.opened-count.result n o.fits.array_long o.fits.charges_long (λ k. (c.type_inv.«record» k).fits) o.told.1 c.opened-count.ensures.0 c.snapshot_length-length.ensures in
+    let e = length-written m c.in_ok-held.held c.opened-count.result n o.bytes o.told.1 c.opened-count.ensures.0 c.snapshot_length-length.ensures in
     let z = told-none m (length x.out.now) o.told.0 n e c.if-out-length.false in
     record { answer = (z, e); out = put_front c.fill.new.out x.out.now _ n (rw o.told.1 at c.fill.ensures) e (omega arith) }

@@ -8,12 +8,12 @@ use Rattle.summary.proofs.marks_for.Goals as goal
 
 pub returns-in_err-see_marks : goal.returns-in_err-see_marks
 returns-in_err-see_marks c =
-    rw (passed-on _ c.from_residual.ensures.1) (c.in_err-see_marks.ensures.0 ∙ marks-refusal _ _ _ refl)
+    rw (passed-on _ c.from_residual.ensures.1) (c.in_err-see_marks.ensures.refused ∙ marks-refusal _ _ _ refl)
 
 pub returns-in_ok-see_marks : goal.returns-in_ok-see_marks
 returns-in_ok-see_marks c =
     let seen = c.in_ok-see_marks.ensures in
-    rw (marks-shown _ _ _ _ refl seen.1)
+    rw (marks-shown _ _ _ _ refl seen.left)
 
 pub returns-else-map : goal.returns-else-map
 unfolding map_text

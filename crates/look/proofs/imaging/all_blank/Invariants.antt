@@ -2,10 +2,10 @@
 -- Assumes nothing.
 use mathlib.Core.Path.{◌≡◌}
 use Prim.Native.Nat.{◌+◌, ◌-◌}
+use Rattle.settle.specs.Views.{cells_in, exposed}
 use Rattle.flash.specs.Looking.{all_blank}
-use Rattle.flash.proofs.Look.{seen}
 use Rattle.look.proofs.imaging.all_blank.Given as goal
 
 abbrev pub invariant-loop-i : goal.invariant-loop-i
 invariant-loop-i l =
-    all_blank 128 l.start (seen l.indices l.array l.charges l.pulse l.latch l.exposure) ≡ all_blank (128 - l.i) (l.start + l.i) (seen l.indices l.array l.charges l.pulse l.latch l.exposure)
+    all_blank 128 l.start (exposed l.exposure (cells_in l.cells)).array ≡ all_blank (128 - l.i) (l.start + l.i) (exposed l.exposure (cells_in l.cells)).array

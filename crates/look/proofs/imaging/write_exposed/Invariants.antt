@@ -3,9 +3,10 @@
 use mathlib.Core.Path.{◌≡◌}
 use lib.ListN.{take, drop}
 use lib.Seq.{sets}
-use Rattle.flash.proofs.Look.{seen}
+use Rattle.std.specs.Prelude.{Some}
+use Rattle.settle.specs.Views.{cells_in, exposed}
 use Rattle.look.proofs.imaging.write_exposed.Given as goal
 
 abbrev pub invariant-loop-i : goal.invariant-loop-i
 invariant-loop-i l =
-    l.out ≡ sets l.initial.out l.start (take l.i (drop l.start (seen l.indices l.array l.charges l.pulse l.latch l.exposure)))
+    l.out ≡ sets l.initial.out l.start (take l.i (drop l.start (exposed (Some l.exposure) (cells_in l.cells)).array))

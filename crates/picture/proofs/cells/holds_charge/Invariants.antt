@@ -2,11 +2,11 @@
 -- Assumes nothing.
 use mathlib.Core.Path.{◌≡◌}
 use Prim.Native.Nat.{◌+◌, ◌-◌, ◌*◌}
-use Rattle.picture.proofs.Held.{after}
 use Rattle.picture.specs.Marks.{holds_charge}
 use Rattle.settle.specs.Pages.{cell_at}
+use Rattle.settle.specs.Views.{cells_in, exposed}
 use Rattle.picture.proofs.cells.holds_charge.Given as goal
 
 abbrev pub invariant-loop-i : goal.invariant-loop-i
 invariant-loop-i l =
-    holds_charge (cell_at (after l.indices l.array l.charges l.pulse l.latch l.exposure)) 1024 (l.page * 1024) ≡ holds_charge (cell_at (after l.indices l.array l.charges l.pulse l.latch l.exposure)) (1024 - l.i) (l.page * 1024 + l.i)
+    holds_charge (cell_at (exposed l.exposure (cells_in l.cells))) 1024 (l.page * 1024) ≡ holds_charge (cell_at (exposed l.exposure (cells_in l.cells))) (1024 - l.i) (l.page * 1024 + l.i)

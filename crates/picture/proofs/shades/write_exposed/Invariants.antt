@@ -1,11 +1,11 @@
 -- `picture::shades::write_exposed` meets its contract. The loop's invariant: as many shades are written as cells were passed.
 -- Assumes nothing.
 use mathlib.Core.Path.{◌≡◌}
-use Rattle.picture.proofs.Held.{after}
 use Rattle.picture.specs.Shades.{shade_of}
 use Rattle.picture.specs.Outputs.{written}
 use Rattle.settle.specs.Pages.{cell_at}
+use Rattle.settle.specs.Views.{cells_in, exposed}
 use Rattle.picture.proofs.shades.write_exposed.Given as goal
 
 abbrev pub invariant-loop-i : goal.invariant-loop-i
-invariant-loop-i l = l.out ≡ written (λ k. shade_of (cell_at (after l.indices l.array l.charges l.pulse l.latch l.exposure) k)) l.i l.initial.out
+invariant-loop-i l = l.out ≡ written (λ k. shade_of (cell_at (exposed l.exposure (cells_in l.cells)) k)) l.i l.initial.out

@@ -1,0 +1,41 @@
+-- A blank page, one byte after the other; and the stores of a loop, a byte or a page more at a time. Assumes nothing.
+use mathlib.Core.Path.{◌≡◌, ◌∙◌}
+use mathlib.Core.Bool.{◌&&◌}
+use mathlib.Core.List.{List, [], ◌∷◌}
+use Prim.Native.Nat.{ℕ, suc, ◌+◌, ◌-◌, ◌<◌, ◌≤◌}
+use native.Mathlib.Numerals.{add-one}
+use native.Mathlib.Omega.{arith}
+use lib.ListN.{length, set, take, drop, length-take, length-drop}
+use lib.Seq.{sets, take-suc, take-add, take-length, get_or-drop}
+use lib.Dec.{eqb}
+use Rattle.cell.specs.Cell.{at}
+use Rattle.settle.proofs.Stored.{sets-append}
+use Rattle.flash.specs.Looking.{all_blank}
+
+-- ---- a blank page, one byte after the other
+
+pub blank_turn : (start i : ℕ) (image : List ℕ) → i < 128
+    → all_blank (128 - i) (start + i) image ≡ (eqb (at image (start + i)) 255 && all_blank (128 - (i + 1)) (start + (i + 1)) image)
+unfolding all_blank
+blank_turn start i image h =
+    let e : 128 - i ≡ suc (128 - (i + 1)) = omega arith in
+    let d : start + (i + 1) ≡ suc (start + i) = omega arith in
+    rw (e, d)
+
+-- ---- the stores of a loop, one after the other, and of a page after the other; they are those of vs from n on
+
+pub sets-turn : (l vs ys : List ℕ) (n i v : ℕ) → ys ≡ sets l n (take i (drop n vs)) → v ≡ at vs (n + i) → n + i < length vs
+    → set ys (n + i) v ≡ sets l n (take (i + 1) (drop n vs))
+sets-turn l vs ys n i v e d h =
+    let k : i < length (drop n vs) = simp length-drop (omega arith) in
+    let m : n + length (take i (drop n vs)) ≡ n + i = simp (length-take, length-drop) (omega arith) in
+    rw (d, e, add-one i, take-suc (drop n vs) i 0 k, sets-append l n (take i (drop n vs)) (at (drop n vs) i ∷ []), m, get_or-drop n vs i 0)
+
+pub sets_more : (l vs ys zs : List ℕ) (n m : ℕ) → ys ≡ sets l 0 (take n vs) → zs ≡ sets ys n (take m (drop n vs)) → n ≤ length vs
+    → zs ≡ sets l 0 (take (n + m) vs)
+sets_more l vs ys zs n m e d h =
+    let k : 0 + length (take n vs) ≡ n = simp length-take (omega arith) in
+    d ∙ rw (e, take-add n m vs, sets-append l 0 (take n vs) (take m (drop n vs)), k)
+
+pub sets-all : (l vs ys : List ℕ) (i : ℕ) → ys ≡ sets l 0 (take i vs) → i ≡ length vs → ys ≡ sets l 0 vs
+sets-all l vs ys i e d = e ∙ rw (d, take-length vs)
