@@ -148,3 +148,6 @@ goes_on a b c p q = record {
     within = let a = p.ends.within in let b = q.ends.within in omega (arith, p.long);
   };
 }
+
+-- whatever is put, the cursor goes on
+pub ruleset onward = (says_goes, goes_on)
