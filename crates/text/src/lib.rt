@@ -3,7 +3,7 @@
 // it also wants text, and a word of a history may be any bytes.
 #![tactic(auto)]
 
-ghost use Rattle.std.specs.Prelude.{◌≡◌, cond, [], get_or};
+ghost use Rattle.std.specs.Prelude.{◌≡◌, cond, [], get_or, take};
 ghost use Rattle.text.specs.Text.{filled};
 ghost use Rattle.text.specs.Says.{Says};
 
@@ -40,6 +40,13 @@ fn number_at(numbers: &[u64], i: usize) -> u64
 }
 
 impl Text<'_> {
+    // What stands in the slice before the cursor's place.
+    pub fn as_bytes(&self) -> &[u8]
+        ensures { result.now ≡ take self.now.at self.now.out.now }
+    {
+        &self.out[..self.at.min(self.out.len())]
+    }
+
     // Puts a template with its marks filled.
     pub fn fill(&mut self, template: &[u8], word: &[u8], numbers: &[u64])
         ensures { Says (filled template.now word.now numbers.now) self.old self.new }
