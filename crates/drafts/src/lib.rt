@@ -8,7 +8,7 @@ use std::io::{ErrorKind, Seek, SeekFrom, Write};
 use std::rt::Files;
 use std::str::from_utf8;
 use std::{fs, io};
-use text::putting::put_text;
+use text::Text;
 
 // Room for a path, which has at most 4,095 bytes.
 pub const PATH_ROOM: usize = 4096;
@@ -20,8 +20,10 @@ fn name_of(path: &[u8]) -> io::Result<&str> {
 
 // A draft's name, put into a slice. One that is cut off is as long as the slice, which no path is.
 fn name_beside<'a>(path: &[u8], room: &'a mut [u8]) -> io::Result<&'a str> {
-    let end = put_text(room, 0, path);
-    let end = put_text(room, end, b".part");
+    let mut text = Text { out: room, at: 0 };
+    text.put_text(path);
+    text.put_text(b".part");
+    let end = text.at;
     name_of(first(room, end))
 }
 

@@ -5,7 +5,7 @@ use slices::first;
 use std::fs;
 use std::rt::Files;
 use telling::reading::read_full;
-use text::say;
+use text::Text;
 
 // The bytes of a picture: its head, then one for each cell.
 const HEAD: usize = 15;
@@ -33,14 +33,16 @@ fn counted(bytes: &[u8]) -> Pixels {
 
 fn tell_bytes<R: Print>(rt: &R, bytes: &[u8]) {
     let pixels = counted(bytes);
-    let mut text = [0u8; 128];
-    let n = say(
-        &mut text,
-        0,
+    let mut room = [0u8; 128];
+    let mut text = Text {
+        out: &mut room,
+        at: 0,
+    };
+    text.say(
         b"box.pgm: % bytes, % pixels not black, sum %\n",
         &[bytes.len() as u64, pixels.bright, pixels.sum],
     );
-    let _ = rt.write_all(first(&text, n));
+    let _ = rt.write_all(text.as_bytes());
 }
 
 // Tells of the picture, if there is one, and removes it.

@@ -9,7 +9,7 @@ ghost use Rattle.feeding.specs.Feeding.{fed_to, Feeds};
 use byte_search::find;
 use course::Place;
 use course::memory::{Bytes, LONGEST};
-use text::putting::put_text;
+use text::Text;
 
 // Where a run stands then, and whether the line ended. Each of the two has a place, so an enum would be no plainer.
 #[derive(Clone, Copy)]
@@ -25,8 +25,13 @@ fn put(place: Place, bytes: &[u8], line: &mut Bytes, next: usize) -> Place
     ensures put { Puts bytes.now place.length line.old line.new result.length }
 {
     let before = place.length;
+    let mut text = Text {
+        out: line,
+        at: before,
+    };
+    text.put_text(bytes);
     let mut p = place;
-    p.length = put_text(line, before, bytes);
+    p.length = text.at;
     p.long = p.long || LONGEST - before < bytes.len();
     p.at = next;
     p

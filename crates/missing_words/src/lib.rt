@@ -1,10 +1,10 @@
 // What is missing where a line ends too early. Words are put as they are: nothing is filled in.
-#![tactic(auto)]
+#![tactic(auto, using(text::proofs::Joined::onward))]
 
-ghost use Rattle.text.specs.Puts.{Ends};
+ghost use Rattle.text.specs.Says.{Goes};
 
 use reason::Reason;
-use text::putting::put_text;
+use text::Text;
 
 // The sentence on each reason. The last are those that only a word that is there can have.
 fn sentence(reason: Reason) -> &'static [u8] {
@@ -37,8 +37,8 @@ fn sentence(reason: Reason) -> &'static [u8] {
 }
 
 // Says what is missing, for any reason.
-pub fn missing(out: &mut [u8], at: usize, reason: Reason) -> usize
-    ensures { Ends at out.old result }
+pub fn missing(text: &mut Text, reason: Reason)
+    ensures { Goes text.old text.new }
 {
-    put_text(out, at, sentence(reason))
+    text.put_text(sentence(reason));
 }

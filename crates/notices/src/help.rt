@@ -1,15 +1,14 @@
 // The help of the program.
-ghost use Rattle.text.specs.Puts.{Ends};
+ghost use Rattle.text.specs.Says.{Goes};
 
-use text::putting::put_text;
+use text::Text;
 
 // Puts the help: the usage, what each option does, what is printed, the exit status, and where the format of a history is described.
-pub fn help(out: &mut [u8], at: usize) -> usize
-    ensures { Ends at out.old result }
+#[tactic(auto, using(text::proofs::Joined::onward))]
+pub fn help(text: &mut Text)
+    ensures { Goes text.old text.new }
 {
-    put_text(
-        out,
-        at,
+    text.put_text(
         b"usage: wipe [--image FILE | --restore FILE] [--block N | --from ADDR --to ADDR] [--at TIME]\n\
           \x20           [--events] [--map] [--picture FILE] [--snapshot FILE] [--go-on] HISTORY\n\
           \n\
@@ -32,5 +31,5 @@ pub fn help(out: &mut [u8], at: usize) -> usize
           \n\
           Exit status of ./wipe: 0 blank, 1 legible, 2 error.\n\
           How a history is written: docs/HISTORY-FORMAT.md.\n",
-    )
+    );
 }

@@ -1,11 +1,10 @@
 // Refusals in document 01's own words. They are put as they are, since one of them has a mark of templates in it.
-#![tactic(auto)]
+#![tactic(auto, using(text::proofs::Joined::onward))]
 
-ghost use Rattle.text.specs.Puts.{Ends};
+ghost use Rattle.text.specs.Says.{Goes};
 
 use refusal::Refusal;
-use text::putting::{put_byte, put_text};
-use text::{fill, say};
+use text::Text;
 
 // Each refusal's line of the table.
 fn words(why: Refusal) -> &'static [u8] {
@@ -34,56 +33,48 @@ fn words(why: Refusal) -> &'static [u8] {
 }
 
 // A refusal after what was begun, to the line's end.
-fn ended(out: &mut [u8], at: usize, why: Refusal) -> usize
-    ensures { Ends at out.old result }
+fn ended(text: &mut Text, why: Refusal)
+    ensures { Goes text.old text.new }
 {
-    let told = put_text(out, at, words(why));
-    put_byte(out, told, b'\n')
+    text.put_text(words(why));
+    text.put_byte(b'\n');
 }
 
 // A call that is refused, with the number of its line.
-pub fn refusal(out: &mut [u8], at: usize, line_number: u64, why: Refusal) -> usize
-    ensures { Ends at out.old result }
+pub fn refusal(text: &mut Text, line_number: u64, why: Refusal)
+    ensures { Goes text.old text.new }
 {
     let numbers = [line_number, u64::from(u32::from(why))];
-    let begun = say(out, at, b"line %: the call is refused, %: ", &numbers);
-    ended(out, begun, why)
+    text.say(b"line %: the call is refused, %: ", &numbers);
+    ended(text, why);
 }
 
 // A file that is no snapshot.
-pub fn no_snapshot(out: &mut [u8], at: usize, word: &[u8], why: Refusal) -> usize
-    ensures { Ends at out.old result }
+pub fn no_snapshot(text: &mut Text, word: &[u8], why: Refusal)
+    ensures { Goes text.old text.new }
 {
     let numbers = [u64::from(u32::from(why))];
-    let begun = fill(
-        out,
-        at,
-        b"wipe: @ is no snapshot, refusal %: ",
-        word,
-        &numbers,
-    );
-    ended(out, begun, why)
+    text.fill(b"wipe: @ is no snapshot, refusal %: ", word, &numbers);
+    ended(text, why);
 }
 
 // A look of the history that is refused, with the number of its line.
-pub fn look_refusal(out: &mut [u8], at: usize, line_number: u64, why: Refusal) -> usize
-    ensures { Ends at out.old result }
+pub fn look_refusal(text: &mut Text, line_number: u64, why: Refusal)
+    ensures { Goes text.old text.new }
 {
     let numbers = [line_number, u64::from(u32::from(why))];
-    let begun = say(out, at, b"line %: the look is refused, %: ", &numbers);
-    ended(out, begun, why)
+    text.say(b"line %: the look is refused, %: ", &numbers);
+    ended(text, why);
 }
 
 // A verdict's time at which no look is possible.
-pub fn unseen(out: &mut [u8], at: usize, why: Refusal) -> usize
-    ensures { Ends at out.old result }
+pub fn unseen(text: &mut Text, why: Refusal)
+    ensures { Goes text.old text.new }
 {
     let numbers = [u64::from(u32::from(why))];
-    let begun = say(
-        out,
-        at,
+    text.say(
         b"wipe: the flash can't be looked at then, refused by %: ",
         &numbers,
     );
-    ended(out, begun, why)
+    ended(text, why);
 }

@@ -1,11 +1,11 @@
 // An event in words.
 ghost use Rattle.std.specs.Prelude.{◌≡◌};
-ghost use Rattle.text.specs.Puts.{Puts};
+ghost use Rattle.text.specs.Says.{Says};
 ghost use Rattle.sayings.specs.Sayings.{last_address, end_said, happened, event_said};
 
 use crate::times::instant;
 use ledger::event_word::{address_in, kind_in, value_in};
-use text::{say, say_either};
+use text::Text;
 
 // The kinds of an event.
 const BYTE: u64 = 1;
@@ -19,39 +19,32 @@ fn last_address(word: u64) -> u64
     (address_in(word) + value_in(word)).saturating_sub(1)
 }
 
-fn ended(out: &mut [u8], at: usize, word: u64) -> usize
-    ensures { Puts (end_said word) at out.old out.new result }
+fn ended(text: &mut Text, word: u64)
+    ensures { Says (end_said word) text.old text.new }
 {
-    say_either(
-        out,
-        at,
+    text.say_either(
         kind_in(word) == COMPLETED,
         b": the pulse over $ to $ is completed\n",
         b": the pulse over $ to $ is interrupted\n",
         &[address_in(word), last_address(word)],
-    )
+    );
 }
 
-fn put_happened(out: &mut [u8], at: usize, word: u64) -> usize
-    ensures { Puts (happened word) at out.old out.new result }
+fn put_happened(text: &mut Text, word: u64)
+    ensures { Says (happened word) text.old text.new }
 {
     if kind_in(word) == BYTE {
-        say(
-            out,
-            at,
-            b": byte $ becomes &\n",
-            &[address_in(word), value_in(word)],
-        )
+        text.say(b": byte $ becomes &\n", &[address_in(word), value_in(word)]);
     } else {
-        ended(out, at, word)
+        ended(text, word);
     }
 }
 
 // An event with its time.
-pub fn event(out: &mut [u8], at: usize, seconds: u64, fraction: u64, word: u64) -> usize
-    ensures { Puts (event_said seconds fraction word) at out.old out.new result }
+pub fn event(text: &mut Text, seconds: u64, fraction: u64, word: u64)
+    ensures { Says (event_said seconds fraction word) text.old text.new }
 {
-    let begun = say(out, at, b"at ", &[]);
-    let timed = instant(out, begun, seconds, fraction);
-    put_happened(out, timed, word)
+    text.say(b"at ", &[]);
+    instant(text, seconds, fraction);
+    put_happened(text, word);
 }

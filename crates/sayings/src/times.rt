@@ -1,11 +1,11 @@
 // A time in seconds, and exactly as a history may write it.
 ghost use Rattle.moments.specs.Moments.{exact_of};
-ghost use Rattle.text.specs.Puts.{Puts};
+ghost use Rattle.text.specs.Says.{Says};
 ghost use Rattle.std.specs.Prelude.{◌≡◌};
 ghost use Rattle.sayings.specs.Sayings.{microsecond_in, fraction_said, instant_said};
 
 use moments::{MICROSECOND, micros_of};
-use text::say;
+use text::Text;
 
 // The microsecond of a second in which a fraction lies.
 fn microsecond_in(fraction: u64) -> u64
@@ -14,27 +14,20 @@ fn microsecond_in(fraction: u64) -> u64
     (fraction / MICROSECOND).min(999999)
 }
 
-fn put_fraction(out: &mut [u8], at: usize, seconds: u64, fraction: u64) -> usize
-    ensures { Puts (fraction_said (exact_of fraction) seconds fraction) at out.old out.new result }
+fn put_fraction(text: &mut Text, seconds: u64, fraction: u64)
+    ensures { Says (fraction_said (exact_of fraction) seconds fraction) text.old text.new }
 {
     match micros_of(fraction) {
-        Some(n) => say(out, at, b".^", &[n]),
-        None => say(
-            out,
-            at,
-            b".^ (%:%)",
-            &[microsecond_in(fraction), seconds, fraction],
-        ),
+        Some(n) => text.say(b".^", &[n]),
+        None => text.say(b".^ (%:%)", &[microsecond_in(fraction), seconds, fraction]),
     }
 }
 
-pub fn instant(out: &mut [u8], at: usize, seconds: u64, fraction: u64) -> usize
-    ensures { Puts (instant_said seconds fraction) at out.old out.new result }
+pub fn instant(text: &mut Text, seconds: u64, fraction: u64)
+    ensures { Says (instant_said seconds fraction) text.old text.new }
 {
-    let end = say(out, at, b"%", &[seconds]);
-    if fraction == 0 {
-        end
-    } else {
-        put_fraction(out, end, seconds, fraction)
+    text.say(b"%", &[seconds]);
+    if fraction != 0 {
+        put_fraction(text, seconds, fraction);
     }
 }

@@ -11,6 +11,7 @@ use course::{Complaint, Course, Manner, after_refusal, with_calls};
 use lent::{Answer, Request};
 use listing::{Replayed, request_in};
 use replay::replay;
+use text::Text;
 use time::Time;
 use verdict::pulses::tallied;
 use voices::call_said;
@@ -72,8 +73,9 @@ fn made(
     ensures { Notes (made manner line (record { request = request; time = time })) course (record { done = next; last = Ok answer }) events.now out.old out.new result }
 {
     let counted = tallied(course.tally, events, answer.count);
-    let end = call_said(
-        out,
+    let mut text = Text { out, at: 0 };
+    call_said(
+        &mut text,
         manner.events,
         line,
         request,
@@ -86,7 +88,7 @@ fn made(
         course: with_calls(course, 1, time, counted),
         next,
         complaint: None,
-        end,
+        end: text.at,
     }
 }
 

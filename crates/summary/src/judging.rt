@@ -1,14 +1,14 @@
 // What is judged, and the verdict on it.
 ghost use Rattle.std.specs.Prelude.{◌≡◌, ◌+◌, ◌<◌, ◌≤◌};
 ghost use Rattle.cell.specs.Cell.{pages};
-ghost use Rattle.text.specs.Puts.{Puts};
+ghost use Rattle.text.specs.Says.{Says};
 ghost use Rattle.summary.specs.Summary.{address_line, only_line, legible_among, judged_text};
 ghost use Rattle.summary.specs.Summary.{lies as Summary·lies};
 
 use crate::Judged;
 use cell::{FLASH_SIZE, PAGE, PAGES};
 use report::verdict as verdict_line;
-use text::say;
+use text::Text;
 use verdict::legible::legible_pages;
 
 // Whether the judged pages lie in the flash.
@@ -19,29 +19,22 @@ fn lies(judged: Judged) -> bool
 }
 
 // The first and the last address of the judged pages.
-fn put_addresses(out: &mut [u8], at: usize, judged: Judged) -> usize
+fn put_addresses(text: &mut Text, judged: Judged)
     requires { (0 < judged.pages) × (judged.first + judged.pages ≤ pages) }
-    ensures { Puts (address_line judged) at out.old out.new result }
+    ensures { Says (address_line judged) text.old text.new }
 {
     let from = judged.first * PAGE;
     let end = (judged.first + judged.pages) * PAGE;
-    say(
-        out,
-        at,
-        b"only $ to $ is judged\n",
-        &[from as u64, (end - 1) as u64],
-    )
+    text.say(b"only $ to $ is judged\n", &[from as u64, (end - 1) as u64]);
 }
 
 // The same where some of the pages are judged and not all.
-fn put_only(out: &mut [u8], at: usize, judged: Judged) -> usize
-    ensures { Puts (only_line judged) at out.old out.new result }
+fn put_only(text: &mut Text, judged: Judged)
+    ensures { Says (only_line judged) text.old text.new }
 {
     let pages = judged.pages;
-    if (pages == PAGES) | (pages == 0) | !lies(judged) {
-        at
-    } else {
-        put_addresses(out, at, judged)
+    if pages != PAGES && pages != 0 && lies(judged) {
+        put_addresses(text, judged);
     }
 }
 
@@ -57,10 +50,10 @@ pub fn legible_among(image: &[u8; FLASH_SIZE], judged: Judged) -> usize
     }
 }
 
-pub fn put_judged(out: &mut [u8], at: usize, image: &[u8; FLASH_SIZE], judged: Judged) -> usize
-    ensures { Puts (judged_text image.now judged) at out.old out.new result }
+pub fn put_judged(text: &mut Text, image: &[u8; FLASH_SIZE], judged: Judged)
+    ensures { Says (judged_text image.now judged) text.old text.new }
 {
-    let told = put_only(out, at, judged);
+    put_only(text, judged);
     let legible = legible_among(image, judged);
-    verdict_line(out, told, legible as u64)
+    verdict_line(text, legible as u64);
 }

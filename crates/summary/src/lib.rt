@@ -6,7 +6,7 @@ ghost use Rattle.refusal.specs.Refusal.{number, told};
 ghost use Rattle.flash.specs.Looking.{image_at};
 ghost use Rattle.lent.specs.Memory.{chip_in};
 ghost use Rattle.lent.specs.Looked.{look_refusal};
-ghost use Rattle.text.specs.Puts.{Puts};
+ghost use Rattle.text.specs.Says.{Says};
 ghost use Rattle.summary.specs.Summary.{map_text, summary_text};
 ghost use Rattle.summary.specs.Reported.{Shows, marks_at, report_text, Reports};
 
@@ -19,6 +19,7 @@ use lent::memory::Lent;
 use picture::see_marks;
 use refusal::Refusal;
 use see::see_image;
+use text::Text;
 use time::Time;
 use verdict::Tally;
 
@@ -45,20 +46,19 @@ pub struct Judged {
 
 // The report from what was counted, the image and the map's marks.
 pub fn summary(
-    out: &mut [u8],
-    at: usize,
+    text: &mut Text,
     counts: Counts,
     image: &[u8; FLASH_SIZE],
     map: bool,
     marks: &[u8; PAGES],
     judged: Judged,
-) -> usize
-    ensures { Puts (summary_text counts image.now map marks.now judged) at out.old out.new result }
+)
+    ensures { Says (summary_text counts image.now map marks.now judged) text.old text.new }
 {
-    let counted = put_counts(out, at, counts);
-    let paged = put_pages(out, counted, image);
-    let mapped = put_map(out, paged, map, marks);
-    put_judged(out, mapped, image, judged)
+    put_counts(text, counts);
+    put_pages(text, image);
+    put_map(text, map, marks);
+    put_judged(text, image, judged);
 }
 
 // The image at a time, in an array of its length.
@@ -112,5 +112,7 @@ pub fn report(
     let mut image = [0u8; FLASH_SIZE];
     image_at(&mut image, record, array, charges, time)?;
     let marks = marks_for(map, record, array, charges, time)?;
-    Ok(summary(out, 0, counts, &image, map, &marks, judged))
+    let mut text = Text { out, at: 0 };
+    summary(&mut text, counts, &image, map, &marks, judged);
+    Ok(text.at)
 }

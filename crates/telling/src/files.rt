@@ -9,6 +9,7 @@ use report::picture_head;
 use save::write_snapshot;
 use slices::first;
 use std::rt::Files;
+use text::Text;
 use time::Time;
 
 // Room for a picture's head.
@@ -69,8 +70,12 @@ pub fn picture_drafted<R: Files, S: Print>(
     };
     see_shades(lent, time, buffer).map_err(|_| unwritten(says, path))?;
     let mut head = [0u8; HEAD];
-    let n = picture_head(&mut head, 0);
-    drafted(rt, path, says, first(&head, n), first(buffer, CELLS))
+    let mut text = Text {
+        out: &mut head,
+        at: 0,
+    };
+    picture_head(&mut text);
+    drafted(rt, path, says, text.as_bytes(), first(buffer, CELLS))
 }
 
 // A file that was asked for takes its name, or its draft is removed.

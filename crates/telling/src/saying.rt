@@ -5,19 +5,22 @@ use notices::{image_length, not_opened, not_written};
 use reason::Reason;
 use refusal::Refusal;
 use refusals::{look_refusal, no_snapshot, refusal, unseen};
-use slices::first;
-use text::fill;
+use text::Text;
 
 // No sentence is longer.
 const ROOM: usize = 4096;
 
-// Writes what a function puts at the start of a slice and answers the end of. Whether it could be written makes no difference.
-pub(crate) fn say<S: Print, F: FnOnce(&mut [u8]) -> usize>(to: &S, put: F)
+// Writes what a function puts. Whether it could be written makes no difference.
+pub(crate) fn say<S: Print, F: FnOnce(&mut Text)>(to: &S, put: F)
     requires { F.IsAlwaysCallable put }
 {
-    let mut text = [0u8; ROOM];
-    let n = put(&mut text);
-    let _ = to.write_all(first(&text, n));
+    let mut room = [0u8; ROOM];
+    let mut text = Text {
+        out: &mut room,
+        at: 0,
+    };
+    put(&mut text);
+    let _ = to.write_all(text.as_bytes());
 }
 
 // ---- while the history runs
@@ -39,30 +42,27 @@ pub fn say_fault<S: Print>(
 ) {
     if from < ROOM {
         let column = from as u64 + 1;
-        say(
-            to,
-            |text| fault(text, 0, line, column, word, reason, goes_on),
-        );
+        say(to, |text| fault(text, line, column, word, reason, goes_on));
     }
 }
 
 pub fn say_refusal<S: Print>(to: &S, line: u64, why: Refusal) {
-    say(to, |text| refusal(text, 0, line, why));
+    say(to, |text| refusal(text, line, why));
 }
 
 pub fn say_look_refused<S: Print>(to: &S, line: u64, why: Refusal) {
-    say(to, |text| look_refusal(text, 0, line, why));
+    say(to, |text| look_refusal(text, line, why));
 }
 
 // No look is possible at the verdict's time.
 pub fn say_unseen<S: Print>(to: &S, why: Refusal) {
-    say(to, |text| unseen(text, 0, why));
+    say(to, |text| unseen(text, why));
 }
 
 // ---- help and the report
 
 pub fn say_help<R: Print>(rt: &R) {
-    say(rt, |text| help(text, 0));
+    say(rt, |text| help(text));
 }
 
 pub fn say_report<R: Print>(rt: &R, report: &[u8]) {
@@ -72,24 +72,24 @@ pub fn say_report<R: Print>(rt: &R, report: &[u8]) {
 // ---- files
 
 pub fn say_not_opened<S: Print>(to: &S, path: &[u8]) {
-    say(to, |text| not_opened(text, 0, path));
+    say(to, |text| not_opened(text, path));
 }
 
 pub fn say_not_written<S: Print>(to: &S, path: &[u8]) {
-    say(to, |text| not_written(text, 0, path));
+    say(to, |text| not_written(text, path));
 }
 
 pub fn say_image_length<S: Print>(to: &S, path: &[u8], length: u64) {
-    say(to, |text| image_length(text, 0, path, length));
+    say(to, |text| image_length(text, path, length));
 }
 
 pub fn say_not_read<S: Print>(to: &S, path: &[u8]) {
     say(
         to,
-        |text| fill(text, 0, b"wipe: @ could not be read\n", path, &[]),
+        |text| text.say_word(b"wipe: @ could not be read\n", path),
     );
 }
 
 pub fn say_no_snapshot<S: Print>(to: &S, path: &[u8], why: Refusal) {
-    say(to, |text| no_snapshot(text, 0, path, why));
+    say(to, |text| no_snapshot(text, path, why));
 }

@@ -6,7 +6,7 @@ use notices::{
 };
 use options::Trouble;
 use slices::part;
-use text::{say, say_word};
+use text::Text;
 use words::Word;
 
 // A word of the arguments, none where there are no such places.
@@ -15,25 +15,23 @@ pub fn word_in(args: &[u8], word: Word) -> &[u8] {
 }
 
 // The trouble as a text, with the word that it lies in.
-fn put_trouble(out: &mut [u8], trouble: Trouble, args: &[u8]) -> usize {
+fn put_trouble(text: &mut Text, trouble: Trouble, args: &[u8]) {
     match trouble {
-        Trouble::NoSuchOption(word) => no_option(out, 0, word_in(args, word)),
-        Trouble::NothingAfter(word) => no_word_after(out, 0, word_in(args, word)),
-        Trouble::NoBlock(word) => no_block(out, 0, word_in(args, word)),
-        Trouble::NoAddress(word) => no_address(out, 0, word_in(args, word)),
-        Trouble::NoTime(word) => no_time(out, 0, word_in(args, word)),
-        Trouble::TwoHistories(word) => second_history(out, 0, word_in(args, word)),
-        Trouble::Twice(word) => say_word(out, 0, b"wipe: @ is given twice\n", word_in(args, word)),
-        Trouble::NoHistory => no_history(out, 0),
-        Trouble::ImageAndRestore => say(
-            out,
-            0,
+        Trouble::NoSuchOption(word) => no_option(text, word_in(args, word)),
+        Trouble::NothingAfter(word) => no_word_after(text, word_in(args, word)),
+        Trouble::NoBlock(word) => no_block(text, word_in(args, word)),
+        Trouble::NoAddress(word) => no_address(text, word_in(args, word)),
+        Trouble::NoTime(word) => no_time(text, word_in(args, word)),
+        Trouble::TwoHistories(word) => second_history(text, word_in(args, word)),
+        Trouble::Twice(word) => text.say_word(b"wipe: @ is given twice\n", word_in(args, word)),
+        Trouble::NoHistory => no_history(text),
+        Trouble::ImageAndRestore => text.say(
             b"wipe: --image and --restore exclude each other\n",
             &[],
         ),
-        Trouble::BlockAndAddresses => two_ranges(out, 0),
-        Trouble::HalfARange => say(out, 0, b"wipe: --from and --to want each other\n", &[]),
-        Trouble::FromAfterTo => ends_early(out, 0),
+        Trouble::BlockAndAddresses => two_ranges(text),
+        Trouble::HalfARange => text.say(b"wipe: --from and --to want each other\n", &[]),
+        Trouble::FromAfterTo => ends_early(text),
     }
 }
 

@@ -6,12 +6,14 @@ use Prim.Native.Nat.{ℕ, suc, min, ◌+◌, ◌-◌, ◌≤◌, ◌<◌}
 use native.Mathlib.Nat.{add-zero, min_comm, min-eq_left}
 use native.Mathlib.Omega.{arith}
 use native.Mathlib.Decide.{dec_le}
-use lib.ListN.{length, take, drop, set, length-append, length-take, length-set}
+use lib.ListN.{length, take, set, length-append, length-take, length-set}
 use lib.Seq.{sets, length-sets, set_out, take-nil, take_all, drop-drop}
 use borrow.Rule.Slice.PartMut.{put_mid}
 use Rattle.std.proofs.lemmas.List.{take_min}
 use Rattle.std.proofs.lemmas.List.Edits.{sets-eq}
+use Rattle.text.specs.declared.Text.{Text}
 use Rattle.text.specs.Puts.{fitting, Ends, Puts}
+use Rattle.text.specs.Says.{Says, Goes}
 
 -- ---- runs of stores
 
@@ -55,13 +57,6 @@ pub puts_none : (at : ℕ) (out : List ℕ) → Puts [] at out out at
 puts_none at out =
     let none = take-nil {A = ℕ} (length out - at) in
     record { left_is = rw none; end_is = rw (none, add-zero); ends = ends_same at out }
-
-pub puts-byte : (b at : ℕ) (out : List ℕ) → at < length out → Puts (b ∷ []) at out (set out at b) (at + 1)
-puts-byte b at out h = record {
-  left_is = sym (sets-fitting out at (b ∷ []));
-  end_is = sym (end_fits out (b ∷ []) at (omega arith));
-  ends = record { onward = omega arith; within = omega arith };
-}
 
 -- past the slice's end all is cut off
 pub puts-cut : (text : List ℕ) (at : ℕ) (out : List ℕ) → length out ≤ at → Puts text at out out at
@@ -120,3 +115,39 @@ puts-append xs ys at mid end out half left p q = record {
         both (yes i) = omega (arith, long, at_mid, length-append xs ys, end_fits half ys mid i, end_fits out (xs ++ ys) at (omega (arith, long, at_mid, length-append xs ys)))
         both (no i) = omega (arith, long, at_mid, length-append xs ys, end-cut half ys mid (omega arith), end-cut out (xs ++ ys) at (omega (arith, long, at_mid, length-append xs ys)))
     end_of (no h) = omega (arith, long, p.end_is, end-cut out xs at (omega arith), end-cut half ys mid (omega (arith, past (omega arith))), end-cut out (xs ++ ys) at (omega (arith, length-append xs ys)))
+
+-- ---- by a cursor
+
+pub says_none : (t : Text) → Says [] t t
+says_none t = record { same = refl; puts = puts_none t.at t.out.now }
+
+pub says-cut : (text : List ℕ) (t : Text) → length t.out.now ≤ t.at → Says text t t
+says-cut text t h = record { same = refl; puts = puts-cut text t.at t.out.now h }
+
+pub says_append : (xs ys : List ℕ) (a b c : Text) → Says xs a b → Says ys b c → Says (xs ++ ys) a c
+says_append xs ys a b c p q = record {
+  same = q.same ∙ p.same;
+  puts = puts-append xs ys a.at b.at c.at a.out.now b.out.now c.out.now p.puts q.puts;
+}
+
+-- ---- a cursor that goes on
+
+pub says_goes : (text : List ℕ) (a b : Text) → Says text a b → Goes a b
+says_goes text a b p = record {
+  same = p.same;
+  long = ap length p.puts.left_is ∙ length-sets a.out.now a.at (fitting a.out.now a.at text);
+  ends = p.puts.ends;
+}
+
+pub goes_on : (a b c : Text) → Goes a b → Goes b c → Goes a c
+goes_on a b c p q = record {
+  same = q.same ∙ p.same;
+  long = q.long ∙ p.long;
+  ends = record {
+    onward = let a = p.ends.onward in let b = q.ends.onward in omega arith;
+    within = let a = p.ends.within in let b = q.ends.within in omega (arith, p.long);
+  };
+}
+
+-- whatever is put, the cursor goes on
+pub ruleset onward = (says_goes, goes_on)

@@ -1,2 +1,3 @@
 pub mod Text
 pub mod Puts
+pub mod Says

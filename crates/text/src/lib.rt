@@ -3,14 +3,21 @@
 // it also wants text, and a word of a history may be any bytes.
 #![tactic(auto)]
 
-ghost use Rattle.std.specs.Prelude.{◌≡◌, cond, [], get_or};
+ghost use Rattle.std.specs.Prelude.{◌≡◌, cond, [], get_or, take};
 ghost use Rattle.text.specs.Text.{filled};
-ghost use Rattle.text.specs.Puts.{Puts};
+ghost use Rattle.text.specs.Says.{Says};
 
-use crate::marks::{mark_of, put_piece, taken};
+use crate::marks::{mark_of, taken};
 
 pub mod marks;
 pub mod putting;
+
+// Text that is put together in a lent slice: what is put next stands at `at`, and what does not fit is cut off at the slice's end.
+#[derive(Drop)]
+pub struct Text<'a> {
+    pub out: &'a mut [u8],
+    pub at: usize,
+}
 
 // What a byte of a template stands for: itself, the word, or a number, hexadecimal or decimal, of which the last
 // digits are put, so many places at most, with zeros in front only where it is padded.
@@ -32,44 +39,44 @@ fn number_at(numbers: &[u64], i: usize) -> u64
     numbers.get(i).copied().unwrap_or(0)
 }
 
-// Puts a template with its marks filled at a place, and answers where it ends.
-pub fn fill(out: &mut [u8], at: usize, template: &[u8], word: &[u8], numbers: &[u64]) -> usize
-    ensures { Puts (filled template.now word.now numbers.now) at out.old out.new result }
-{
-    let mut end = at;
-    let mut used: usize = 0;
-    for b in template {
-        end = put_piece(out, end, *b, word, number_at(numbers, used));
-        used += taken(mark_of(*b));
+impl Text<'_> {
+    // What stands in the slice before the cursor's place.
+    pub fn as_bytes(&self) -> &[u8]
+        ensures { result.now ≡ take self.now.at self.now.out.now }
+    {
+        &self.out[..self.at.min(self.out.len())]
     }
-    end
-}
 
-// The same with numbers and no word.
-pub fn say(out: &mut [u8], at: usize, template: &[u8], numbers: &[u64]) -> usize
-    ensures { Puts (filled template.now [] numbers.now) at out.old out.new result }
-{
-    fill(out, at, template, b"", numbers)
-}
+    // Puts a template with its marks filled.
+    pub fn fill(&mut self, template: &[u8], word: &[u8], numbers: &[u64])
+        ensures { Says (filled template.now word.now numbers.now) self.old self.new }
+    {
+        let mut used: usize = 0;
+        for b in template {
+            self.put_piece(*b, word, number_at(numbers, used));
+            used += taken(mark_of(*b));
+        }
+    }
 
-// The same with a word and no numbers.
-pub fn say_word(out: &mut [u8], at: usize, template: &[u8], word: &[u8]) -> usize
-    ensures { Puts (filled template.now word.now []) at out.old out.new result }
-{
-    fill(out, at, template, word, &[])
-}
+    // The same with numbers and no word.
+    pub fn say(&mut self, template: &[u8], numbers: &[u64])
+        ensures { Says (filled template.now [] numbers.now) self.old self.new }
+    {
+        self.fill(template, b"", numbers);
+    }
 
-// The same with one of two templates.
-pub fn say_either(
-    out: &mut [u8],
-    at: usize,
-    first: bool,
-    one: &[u8],
-    other: &[u8],
-    numbers: &[u64],
-) -> usize
-    ensures { Puts (filled (cond first one.now other.now) [] numbers.now) at out.old out.new result }
-{
-    let template = if first { one } else { other };
-    say(out, at, template, numbers)
+    // The same with a word and no numbers.
+    pub fn say_word(&mut self, template: &[u8], word: &[u8])
+        ensures { Says (filled template.now word.now []) self.old self.new }
+    {
+        self.fill(template, word, &[]);
+    }
+
+    // The same with one of two templates.
+    pub fn say_either(&mut self, first: bool, one: &[u8], other: &[u8], numbers: &[u64])
+        ensures { Says (filled (cond first one.now other.now) [] numbers.now) self.old self.new }
+    {
+        let template = if first { one } else { other };
+        self.say(template, numbers);
+    }
 }

@@ -2,10 +2,9 @@
 ghost use Rattle.std.specs.Prelude.{◌≡◌};
 ghost use Rattle.text.specs.Text.{mark_of, piece};
 ghost use Rattle.text.specs.Text.{taken as Text·taken};
-ghost use Rattle.text.specs.Puts.{Puts};
+ghost use Rattle.text.specs.Says.{Says};
 
-use crate::Mark;
-use crate::putting::{put_byte, put_digits, put_text};
+use crate::{Mark, Text};
 
 fn number(padded: bool, hex: bool, places: usize) -> Mark
     ensures { result ≡ Mark.Number padded hex places }
@@ -40,17 +39,19 @@ pub fn taken(mark: Mark) -> usize
     }
 }
 
-// Puts what a byte of a template stands for.
-pub fn put_piece(out: &mut [u8], at: usize, b: u8, word: &[u8], n: u64) -> usize
-    ensures { Puts (piece (mark_of b) b word.now n) at out.old out.new result }
-{
-    match mark_of(b) {
-        Mark::Plain => put_byte(out, at, b),
-        Mark::Word => put_text(out, at, word),
-        Mark::Number {
-            padded,
-            hex,
-            places,
-        } => put_digits(out, at, padded, hex, places, n),
+impl Text<'_> {
+    // Puts what a byte of a template stands for.
+    pub fn put_piece(&mut self, b: u8, word: &[u8], n: u64)
+        ensures { Says (piece (mark_of b) b word.now n) self.old self.new }
+    {
+        match mark_of(b) {
+            Mark::Plain => self.put_byte(b),
+            Mark::Word => self.put_text(word),
+            Mark::Number {
+                padded,
+                hex,
+                places,
+            } => self.put_digits(padded, hex, places, n),
+        }
     }
 }

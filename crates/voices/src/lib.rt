@@ -2,7 +2,7 @@
 #![tactic(auto)]
 
 ghost use Rattle.std.specs.Prelude.{List, ℕ, take};
-ghost use Rattle.text.specs.Puts.{Puts};
+ghost use Rattle.text.specs.Says.{Says};
 ghost use Rattle.course.specs.Desk.{desk, events_said, value_said, call_said, looked_refusal, looked, Leaves};
 
 use crate::looks::look_at;
@@ -11,6 +11,7 @@ use course::{Complaint, Course, Manner, after_left_out};
 use grammar::Looking;
 use lent::Request;
 use sayings::events::event;
+use text::Text;
 use time::Time;
 
 mod looks;
@@ -23,43 +24,41 @@ pub struct Seeing {
     pub end: usize,
 }
 
-// Each event with its time, from the start of a slice on.
-fn put_events(out: &mut [u8], time: Time, words: &[u64]) -> usize
-    ensures { Puts (events_said time words.now) 0 out.old out.new result }
+// Each event with its time.
+fn put_events(text: &mut Text, time: Time, words: &[u64])
+    ensures { Says (events_said time words.now) text.old text.new }
 {
-    let mut end: usize = 0;
     for word in words {
-        end = event(out, end, time.0, time.1, *word);
+        event(text, time.0, time.1, *word);
     }
-    end
 }
 
 // The same of the first `count` words.
-fn put_first_events(out: &mut [u8], time: Time, words: &[u64], count: usize) -> usize
-    ensures { Puts (events_said time (take count words.now)) 0 out.old out.new result }
+fn put_first_events(text: &mut Text, time: Time, words: &[u64], count: usize)
+    ensures { Says (events_said time (take count words.now)) text.old text.new }
 {
-    put_events(out, time, &words[..count.min(words.len())])
+    put_events(text, time, &words[..count.min(words.len())]);
 }
 
 // What a read answered.
-fn put_value(out: &mut [u8], at: usize, line: u64, request: Request, value: u16) -> usize
-    ensures { Puts (value_said line request value) at out.old out.new result }
+fn put_value(text: &mut Text, line: u64, request: Request, value: u16)
+    ensures { Says (value_said line request value) text.old text.new }
 {
     match request {
-        Request::Read8(a) => answered(out, at, line, a as u64, value as u64, false),
-        Request::Read16(a) => answered(out, at, line, a as u64, value as u64, true),
+        Request::Read8(a) => answered(text, line, a as u64, value as u64, false),
+        Request::Read16(a) => answered(text, line, a as u64, value as u64, true),
         Request::WriteRegister(_, _)
         | Request::Write8(_, _)
         | Request::Protect
         | Request::Reset
         | Request::PowerOff
-        | Request::Environment(_, _, _) => at,
+        | Request::Environment(_, _, _) => {}
     }
 }
 
 // The events of a call and what it answered, where they are asked for.
 pub fn call_said(
-    out: &mut [u8],
+    text: &mut Text,
     events_asked: bool,
     line: u64,
     request: Request,
@@ -67,14 +66,12 @@ pub fn call_said(
     words: &[u64],
     count: usize,
     value: u16,
-) -> usize
-    ensures { Puts (call_said events_asked line (record { request = request; time = time }) (take count words.now) value) 0 out.old out.new result }
+)
+    ensures { Says (call_said events_asked line (record { request = request; time = time }) (take count words.now) value) text.old text.new }
 {
     if events_asked {
-        let end = put_first_events(out, time, words, count);
-        put_value(out, end, line, request, value)
-    } else {
-        0
+        put_first_events(text, time, words, count);
+        put_value(text, line, request, value);
     }
 }
 

@@ -13,6 +13,7 @@ use cell::{FLASH_SIZE, PAGES};
 use grammar::Looking;
 use refusal::Refusal;
 use see::{see_blank, see_byte, see_charge, see_image};
+use text::Text;
 use time::Time;
 use verdict::legible::legible_pages;
 
@@ -36,7 +37,9 @@ fn look_at_all(
     ensures { Looks line Looking.Whole time (record { bytes = «record».now; array = array.now; charges = charges.now }) result out.old out.new }
 {
     let legible = see_pages(record, array, charges, time)?;
-    Ok(looked_whole(out, 0, line, legible))
+    let mut text = Text { out, at: 0 };
+    looked_whole(&mut text, line, legible);
+    Ok(text.at)
 }
 
 #[tactic(auto, unfolding(lent::specs::Looked::peek_refusal, lent::specs::Looked::blank_refusal, lent::specs::Looked::peek_answer))]
@@ -53,7 +56,9 @@ fn look_at_byte(
 {
     let value = see_byte(record, array, charges, address, time)?;
     let blank = see_blank(record, array, charges, address, time)?;
-    Ok(looked_byte(out, 0, line, address as u64, value as u64, blank))
+    let mut text = Text { out, at: 0 };
+    looked_byte(&mut text, line, address as u64, value as u64, blank);
+    Ok(text.at)
 }
 
 #[tactic(auto, unfolding(lent::specs::Looked::charge_answer))]
@@ -70,7 +75,9 @@ fn look_at_cell(
     ensures { Looks line (Looking.Cell address bit) time (record { bytes = «record».now; array = array.now; charges = charges.now }) result out.old out.new }
 {
     let charge = see_charge(record, array, charges, address, bit, time)?;
-    Ok(looked_cell(out, 0, line, address as u64, bit as u64, charge))
+    let mut text = Text { out, at: 0 };
+    looked_cell(&mut text, line, address as u64, bit as u64, charge);
+    Ok(text.at)
 }
 
 // Any look: where the text of what is seen ends, or why it is refused.

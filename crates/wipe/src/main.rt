@@ -5,7 +5,7 @@ use drafts::PATH_ROOM;
 use slices::first;
 use std::env::FillError;
 use std::rt::{Env, Files};
-use text::putting::{put_byte, put_text};
+use text::Text;
 
 // Room for all arguments. Memory is fixed and no list can grow, so they are one text, a byte 0 after each.
 const ROOM: usize = 65536;
@@ -14,25 +14,24 @@ const ROOM: usize = 65536;
 #[derive(Clone, Copy)]
 struct TooLong;
 
-// Argument i is put behind those before it, with a byte 0 after it: where it ends, unless there is no such argument.
+// Argument i is put behind those before it, with a byte 0 after it. Answers whether there is such an argument.
 fn collect_one<R: Env + Eprint>(
     rt: &R,
-    args: &mut [u8],
-    at: usize,
+    args: &mut Text,
     i: usize,
-) -> Result<Option<usize>, TooLong> {
+) -> Result<bool, TooLong> {
     let mut word = [0u8; PATH_ROOM];
     match rt.arg(i, &mut word) {
         Ok(n) => {
-            let put = put_text(args, at, first(&word, n));
-            let end = put_byte(args, put, 0);
-            if end < args.len() {
-                Ok(Some(end))
+            args.put_text(first(&word, n));
+            args.put_byte(0);
+            if args.at < args.out.len() {
+                Ok(true)
             } else {
                 Err(TooLong)
             }
         }
-        Err(FillError::NotPresent) => Ok(None),
+        Err(FillError::NotPresent) => Ok(false),
         Err(FillError::TooLong) => {
             let _ = eprintln!(rt; "wipe: an argument: File name too long");
             Err(TooLong)
@@ -40,21 +39,23 @@ fn collect_one<R: Env + Eprint>(
     }
 }
 
-// The arguments after the program's own name: where they end.
-fn collect<R: Env + Eprint>(rt: &R, args: &mut [u8; ROOM]) -> Result<usize, TooLong> {
-    let mut end = 0;
+// The arguments after the program's own name.
+fn collect<R: Env + Eprint>(rt: &R, args: &mut Text) -> Result<(), TooLong> {
     for i in 1..usize::MAX {
-        match collect_one(rt, args, end, i)? {
-            Some(next) => end = next,
-            None => break,
+        if !collect_one(rt, args, i)? {
+            break;
         }
     }
-    Ok(end)
+    Ok(())
 }
 
 fn main(rt: HostRuntime) {
-    let mut args = [0u8; ROOM];
-    if let Ok(end) = collect(&rt, &mut args) {
-        desk::work(&rt, first(&args, end), &rt.stderr());
+    let mut room = [0u8; ROOM];
+    let mut args = Text {
+        out: &mut room,
+        at: 0,
+    };
+    if collect(&rt, &mut args).is_ok() {
+        desk::work(&rt, args.as_bytes(), &rt.stderr());
     }
 }

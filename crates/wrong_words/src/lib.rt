@@ -1,10 +1,10 @@
 // What is wrong with a word of a line.
-#![tactic(auto)]
+#![tactic(auto, using(text::proofs::Joined::onward))]
 
-ghost use Rattle.text.specs.Puts.{Ends};
+ghost use Rattle.text.specs.Says.{Goes};
 
 use reason::Reason;
-use text::say_word;
+use text::Text;
 
 // The sentence on each reason, with @ for the word.
 fn template(reason: Reason) -> &'static [u8] {
@@ -38,8 +38,8 @@ fn template(reason: Reason) -> &'static [u8] {
 }
 
 // Says what is wrong with a word, for any reason.
-pub fn wrong(out: &mut [u8], at: usize, word: &[u8], reason: Reason) -> usize
-    ensures { Ends at out.old result }
+pub fn wrong(text: &mut Text, word: &[u8], reason: Reason)
+    ensures { Goes text.old text.new }
 {
-    say_word(out, at, template(reason), word)
+    text.say_word(template(reason), word);
 }
