@@ -5,25 +5,18 @@ use notices::{
     second_history, two_ranges,
 };
 use options::Trouble;
-use slices::part;
 use text::{say, say_word};
-use words::Word;
-
-// A word of the arguments, none where there are no such places.
-pub fn word_in(args: &[u8], word: Word) -> &[u8] {
-    part(args, word.from, word.to)
-}
 
 // The trouble as a text, with the word that it lies in.
-fn put_trouble(out: &mut [u8], trouble: Trouble, args: &[u8]) -> usize {
+fn put_trouble(out: &mut [u8], trouble: Trouble) -> usize {
     match trouble {
-        Trouble::NoSuchOption(word) => no_option(out, 0, word_in(args, word)),
-        Trouble::NothingAfter(word) => no_word_after(out, 0, word_in(args, word)),
-        Trouble::NoBlock(word) => no_block(out, 0, word_in(args, word)),
-        Trouble::NoAddress(word) => no_address(out, 0, word_in(args, word)),
-        Trouble::NoTime(word) => no_time(out, 0, word_in(args, word)),
-        Trouble::TwoHistories(word) => second_history(out, 0, word_in(args, word)),
-        Trouble::Twice(word) => say_word(out, 0, b"wipe: @ is given twice\n", word_in(args, word)),
+        Trouble::NoSuchOption(word) => no_option(out, 0, word),
+        Trouble::NothingAfter(word) => no_word_after(out, 0, word),
+        Trouble::NoBlock(word) => no_block(out, 0, word),
+        Trouble::NoAddress(word) => no_address(out, 0, word),
+        Trouble::NoTime(word) => no_time(out, 0, word),
+        Trouble::TwoHistories(word) => second_history(out, 0, word),
+        Trouble::Twice(word) => say_word(out, 0, b"wipe: @ is given twice\n", word),
         Trouble::NoHistory => no_history(out, 0),
         Trouble::ImageAndRestore => say(
             out,
@@ -38,6 +31,6 @@ fn put_trouble(out: &mut [u8], trouble: Trouble, args: &[u8]) -> usize {
 }
 
 // What is wrong with the arguments is said.
-pub fn complain<S: Print>(to: &S, trouble: Trouble, args: &[u8]) {
-    saying::say(to, |text| put_trouble(text, trouble, args));
+pub fn complain<S: Print>(to: &S, trouble: Trouble) {
+    saying::say(to, |text| put_trouble(text, trouble));
 }
