@@ -1,5 +1,5 @@
 // The end of a run: the files that were asked for, the report, and last the verdict.
-use crate::{Memory, given_in};
+use crate::Memory;
 use course::Course;
 use options::Options;
 use slices::first;
@@ -58,14 +58,14 @@ fn files_kept<R: Files, S: Print>(
 // The files that were asked for are written.
 fn files_written<R: Files, S: Print>(
     rt: &R,
-    args: &[u8],
     options: Options,
     says: &S,
     memory: &mut Memory,
     time: Time,
 ) -> Result<(), Told> {
-    let snapshot = given_in(args, options.snapshot);
-    let picture = given_in(args, options.picture);
+    // An empty path names no file.
+    let snapshot = options.snapshot.unwrap_or(&[]);
+    let picture = options.picture.unwrap_or(&[]);
     files_drafted(rt, snapshot, picture, says, memory, time)?;
     files_kept(rt, snapshot, picture, says)
 }
@@ -83,7 +83,6 @@ fn counts_of(course: Course) -> Counts {
 // The report is made before files are written and said after, so that none is written of what can't be seen.
 pub fn finish<R: Files + Print, S: Print>(
     rt: &R,
-    args: &[u8],
     options: Options,
     says: &S,
     course: Course,
@@ -110,7 +109,7 @@ pub fn finish<R: Files + Print, S: Print>(
         say_unseen(says, why);
         Told
     })?;
-    files_written(rt, args, options, says, memory, time)?;
+    files_written(rt, options, says, memory, time)?;
     say_report(rt, first(&text, end));
     Ok(())
 }

@@ -16,8 +16,6 @@ use telling::Told;
 use telling::beginning::{begin, last_settling};
 use telling::saying::say_help;
 use telling::troubles::complain;
-pub use telling::troubles::word_in;
-use words::Word;
 
 // The memory of a run. What is called with it takes the parts.
 #[derive(Drop)]
@@ -38,21 +36,16 @@ const EMPTY: Memory = Memory {
     buffer: [0; BUFFER],
 };
 
-// The word that is given, empty where none is: an empty word names no file either.
-pub fn given_in(args: &[u8], word: Option<Word>) -> &[u8] {
-    word.map_or(&args[..0], |word| word_in(args, word))
-}
-
 // A run on lent memory.
 fn serve<R: Files + Print + Eprint, S: Print>(
     rt: &R,
-    args: &[u8],
     options: Options,
     says: &S,
     memory: &mut Memory,
 ) -> Result<(), Told> {
-    let image = given_in(args, options.image);
-    let snapshot = given_in(args, options.restore);
+    // An empty path names no file either.
+    let image = options.image.unwrap_or(&[]);
+    let snapshot = options.restore.unwrap_or(&[]);
     begin(
         rt,
         image,
@@ -67,11 +60,10 @@ fn serve<R: Files + Print + Eprint, S: Print>(
         events: options.events,
         go_on: options.go_on,
     };
-    let path = word_in(args, options.history);
     let course = begun(last_settling(&memory.record));
     let after = read_history(
         rt,
-        path,
+        options.history,
         says,
         manner,
         course,
@@ -82,17 +74,16 @@ fn serve<R: Files + Print + Eprint, S: Print>(
         &mut memory.buffer,
     )
     .ok_or(Told)?;
-    finish(rt, args, options, says, after, memory)
+    finish(rt, options, says, after, memory)
 }
 
 fn serve_in_memory<R: Files + Print + Eprint, S: Print>(
     rt: &R,
-    args: &[u8],
     options: Options,
     says: &S,
 ) -> Result<(), Told> {
     let mut memory = EMPTY;
-    serve(rt, args, options, says, &mut memory)
+    serve(rt, options, says, &mut memory)
 }
 
 // A run of the program with some arguments, which come one after the other, a byte 0 after each. Complaints go to the
@@ -101,8 +92,8 @@ pub fn work<R: Files + Print + Eprint, S: Print>(rt: &R, args: &[u8], says: &S) 
     match options_of(args) {
         Ok(Asked::Help) => say_help(rt),
         Ok(Asked::Run(options)) => {
-            let _ = serve_in_memory(rt, args, options, says);
+            let _ = serve_in_memory(rt, options, says);
         }
-        Err(trouble) => complain(says, trouble, args),
+        Err(trouble) => complain(says, trouble),
     }
 }

@@ -1,7 +1,7 @@
 // What each word of a call means.
 #![tactic(auto)]
 
-ghost use Rattle.std.specs.Prelude.{◌≡◌, ◌≤◌, ◌<◌, ◌^◌, length, IfOk};
+ghost use Rattle.std.specs.Prelude.{◌≡◌, ◌<◌, ◌^◌, IfOk};
 ghost use Rattle.digits.specs.Digits.{hex_in};
 ghost use Rattle.fields.specs.Fields.{bytes_of, fault_at, number_of, register_in, value_in, address_in, byte_in, bit_in, mode_in, module_in, oscillator_in};
 
@@ -9,7 +9,7 @@ use digits::hexadecimal;
 use names::values::bits_named;
 use names::{NoBits, mode_named, module_named, oscillator_named, register_named};
 use reason::Reason;
-use words::Word;
+use words::{LineWord, Word};
 
 // Why a line can't be taken, and the stretch of it that is wrong, which is empty where something is missing.
 #[derive(Clone, Copy, Debug, PartialEq, Eq)]
@@ -34,102 +34,93 @@ impl Fault {
 
 // A hexadecimal number of so many digits, or a fault for the reason.
 #[tactic(auto, using(crate::proofs::Digits::hex))]
-fn number_in(digits: usize, reason: Reason, line: &[u8], w: Word) -> Result<u64, Fault>
-    requires { (w.from ≤ w.to) × (w.to ≤ length line.now) }
-    ensures is { result ≡ number_of reason w (hex_in digits (bytes_of line.now w)) }
+fn number_in(digits: usize, reason: Reason, w: LineWord) -> Result<u64, Fault>
+    ensures is { result ≡ number_of reason w.entry.place (hex_in digits (bytes_of w.entry.line.now w.entry.place)) }
     ensures below { IfOk result (λ n. n < 16 ^ digits) }
 {
-    match hexadecimal(w.text(line), digits) {
+    match hexadecimal(w.text(), digits) {
         Ok(n) => Ok(n),
-        Err(_) => Err(Fault::at(reason, w)),
+        Err(_) => Err(Fault::at(reason, w.place)),
     }
 }
 
 // A register's address, by its name or by four digits.
 #[tactic(auto, unfolding(crate::specs::Fields::register_in))]
-pub fn register_in(line: &[u8], w: Word) -> Result<u16, Fault>
-    requires { (w.from ≤ w.to) × (w.to ≤ length line.now) }
-    ensures { result ≡ register_in line.now w }
+pub fn register_in(w: LineWord) -> Result<u16, Fault>
+    ensures { result ≡ register_in w.entry.line.now w.entry.place }
 {
-    match register_named(w.text(line)) {
+    match register_named(w.text()) {
         Some(register) => Ok(register),
-        None => Ok(number_in(4, Reason::NoRegister, line, w)? as u16),
+        None => Ok(number_in(4, Reason::NoRegister, w)? as u16),
     }
 }
 
 // The value of a register, by two digits or by names of its bits.
 #[tactic(auto, using(crate::proofs::Digits::hex), unfolding(crate::specs::Fields::value_in))]
-pub fn value_in(register: u16, line: &[u8], w: Word) -> Result<u8, Fault>
-    requires { (w.from ≤ w.to) × (w.to ≤ length line.now) }
-    ensures { result ≡ value_in register line.now w }
+pub fn value_in(register: u16, w: LineWord) -> Result<u8, Fault>
+    ensures { result ≡ value_in register w.entry.line.now w.entry.place }
 {
-    let text = w.text(line);
+    let text = w.text();
     if let Ok(n) = hexadecimal(text, 2) {
         return Ok(n as u8);
     }
     match bits_named(register, text) {
         Ok(value) => Ok(value),
-        Err(NoBits::Twice) => Err(Fault::at(Reason::BitTwice, w)),
-        Err(NoBits::NoName) => Err(Fault::at(Reason::NoValue, w)),
+        Err(NoBits::Twice) => Err(Fault::at(Reason::BitTwice, w.place)),
+        Err(NoBits::NoName) => Err(Fault::at(Reason::NoValue, w.place)),
     }
 }
 
 // An address below a limit, which has four digits.
 #[tactic(auto, unfolding(crate::specs::Fields::address_in))]
-pub fn address_in(limit: u16, past: Reason, line: &[u8], w: Word) -> Result<u16, Fault>
-    requires { (w.from ≤ w.to) × (w.to ≤ length line.now) }
-    ensures { result ≡ address_in limit past line.now w }
+pub fn address_in(limit: u16, past: Reason, w: LineWord) -> Result<u16, Fault>
+    ensures { result ≡ address_in limit past w.entry.line.now w.entry.place }
 {
-    let n = number_in(4, Reason::NoAddress, line, w)?;
+    let n = number_in(4, Reason::NoAddress, w)?;
     if n < u64::from(limit) {
         Ok(n as u16)
     } else {
-        Err(Fault::at(past, w))
+        Err(Fault::at(past, w.place))
     }
 }
 
 #[tactic(auto, unfolding(crate::specs::Fields::byte_in))]
-pub fn byte_in(line: &[u8], w: Word) -> Result<u8, Fault>
-    requires { (w.from ≤ w.to) × (w.to ≤ length line.now) }
-    ensures { result ≡ byte_in line.now w }
+pub fn byte_in(w: LineWord) -> Result<u8, Fault>
+    ensures { result ≡ byte_in w.entry.line.now w.entry.place }
 {
-    Ok(number_in(2, Reason::NoByte, line, w)? as u8)
+    Ok(number_in(2, Reason::NoByte, w)? as u8)
 }
 
 // A bit's number, 0 to 7.
 #[tactic(auto, unfolding(crate::specs::Fields::bit_in))]
-pub fn bit_in(line: &[u8], w: Word) -> Result<u8, Fault>
-    requires { (w.from ≤ w.to) × (w.to ≤ length line.now) }
-    ensures { result ≡ bit_in line.now w }
+pub fn bit_in(w: LineWord) -> Result<u8, Fault>
+    ensures { result ≡ bit_in w.entry.line.now w.entry.place }
 {
-    let n = number_in(1, Reason::NoBitNumber, line, w)?;
+    let n = number_in(1, Reason::NoBitNumber, w)?;
     if n < 8 {
         Ok(n as u8)
     } else {
-        Err(Fault::at(Reason::NoBitNumber, w))
+        Err(Fault::at(Reason::NoBitNumber, w.place))
     }
 }
 
 #[tactic(auto, unfolding(crate::specs::Fields::mode_in))]
-pub fn mode_in(line: &[u8], w: Word) -> Result<u8, Fault>
-    requires { (w.from ≤ w.to) × (w.to ≤ length line.now) }
-    ensures { result ≡ mode_in line.now w }
+pub fn mode_in(w: LineWord) -> Result<u8, Fault>
+    ensures { result ≡ mode_in w.entry.line.now w.entry.place }
 {
-    mode_named(w.text(line)).ok_or(Fault::at(Reason::NoMode, w))
+    mode_named(w.text()).ok_or(Fault::at(Reason::NoMode, w.place))
 }
 
 #[tactic(auto, unfolding(crate::specs::Fields::module_in))]
-pub fn module_in(line: &[u8], w: Word) -> Result<bool, Fault>
-    requires { (w.from ≤ w.to) × (w.to ≤ length line.now) }
-    ensures { result ≡ module_in line.now w }
+pub fn module_in(w: LineWord) -> Result<bool, Fault>
+    ensures { result ≡ module_in w.entry.line.now w.entry.place }
 {
-    module_named(w.text(line)).ok_or(Fault::at(Reason::NoModule, w))
+    module_named(w.text()).ok_or(Fault::at(Reason::NoModule, w.place))
 }
 
 #[tactic(auto, unfolding(crate::specs::Fields::oscillator_in))]
-pub fn oscillator_in(line: &[u8], w: Word) -> Result<bool, Fault>
-    requires { (w.from ≤ w.to) × (w.to ≤ length line.now) }
-    ensures { result ≡ oscillator_in line.now w }
+pub fn oscillator_in(w: LineWord) -> Result<bool, Fault>
+    ensures { result ≡ oscillator_in w.entry.line.now w.entry.place }
 {
-    oscillator_named(w.text(line)).ok_or(Fault::at(Reason::NoOscillator, w))
+    oscillator_named(w.text()).ok_or(Fault::at(Reason::NoOscillator, w.place))
 }

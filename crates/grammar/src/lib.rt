@@ -1,7 +1,7 @@
 // A line of a history.
 #![tactic(auto)]
 
-ghost use Rattle.std.specs.Prelude.{◌≡◌, ◌≤◌, length};
+ghost use Rattle.std.specs.Prelude.{◌≡◌};
 ghost use Rattle.grammar.specs.Grammar.{line_for, call_line, parsed, line_of};
 
 use crate::lines::{
@@ -13,7 +13,7 @@ use moments::moment_in;
 use names::{Kind, call_named};
 use reason::Reason;
 use time::Time;
-use words::{Word, word_at};
+use words::LineWord;
 
 mod lines;
 
@@ -35,35 +35,33 @@ pub enum Looking {
 }
 
 #[tactic(auto, unfolding(crate::specs::Grammar::line_for))]
-fn line_for(kind: Kind, time: Time, line: &[u8], w: Word) -> Result<Line, Fault>
-    requires { w.to ≤ length line.now }
-    ensures { result ≡ line_for kind time line.now w }
+fn line_for(kind: Kind, time: Time, w: LineWord) -> Result<Line, Fault>
+    ensures { result ≡ line_for kind time w.entry.line.now w.entry.place }
 {
     match kind {
-        Kind::Write => write_line(time, line, w),
-        Kind::Data => data_line(time, line, w),
-        Kind::Read => read_line(time, line, w),
-        Kind::Word => word_line(time, line, w),
-        Kind::Protect => ended(Line::Call(time, Request::Protect), line, w),
-        Kind::Reset => ended(Line::Call(time, Request::Reset), line, w),
-        Kind::PowerOff => ended(Line::Call(time, Request::PowerOff), line, w),
-        Kind::Environment => environment_line(time, line, w),
-        Kind::Look => look_line(time, line, w),
+        Kind::Write => write_line(time, w),
+        Kind::Data => data_line(time, w),
+        Kind::Read => read_line(time, w),
+        Kind::Word => word_line(time, w),
+        Kind::Protect => ended(Line::Call(time, Request::Protect), w),
+        Kind::Reset => ended(Line::Call(time, Request::Reset), w),
+        Kind::PowerOff => ended(Line::Call(time, Request::PowerOff), w),
+        Kind::Environment => environment_line(time, w),
+        Kind::Look => look_line(time, w),
     }
 }
 
 #[tactic(auto, unfolding(crate::specs::Grammar::call_line))]
-fn call_line(time: Time, line: &[u8], w: Word) -> Result<Line, Fault>
-    requires { w.to ≤ length line.now }
-    ensures { result ≡ call_line time line.now w }
+fn call_line(time: Time, w: LineWord) -> Result<Line, Fault>
+    ensures { result ≡ call_line time w.entry.line.now w.entry.place }
 {
-    let called = word_at(line, w.to);
+    let called = w.next();
     if called.is_empty() {
-        return Err(Fault::at(Reason::NoCall, called));
+        return Err(Fault::at(Reason::NoCall, called.place));
     }
-    match call_named(called.text(line)) {
-        Some(kind) => line_for(kind, time, line, called),
-        None => Err(Fault::at(Reason::UnknownCall, called)),
+    match call_named(called.text()) {
+        Some(kind) => line_for(kind, time, called),
+        None => Err(Fault::at(Reason::UnknownCall, called.place)),
     }
 }
 
@@ -71,13 +69,13 @@ fn call_line(time: Time, line: &[u8], w: Word) -> Result<Line, Fault>
 fn parsed(line: &[u8], earlier: Option<Time>) -> Result<Line, Fault>
     ensures { result ≡ parsed earlier line.now }
 {
-    let w = word_at(line, 0);
+    let w = LineWord::first(line);
     if w.is_empty() {
         return Ok(Line::Nothing);
     }
-    match moment_in(w.text(line), earlier) {
-        Ok(time) => call_line(time, line, w),
-        Err(reason) => Err(Fault::at(reason, w)),
+    match moment_in(w.text(), earlier) {
+        Ok(time) => call_line(time, w),
+        Err(reason) => Err(Fault::at(reason, w.place)),
     }
 }
 

@@ -9,7 +9,7 @@ use grammar::{Line, parse};
 use listing::word_of;
 use moments::moment_in;
 use time::Time;
-use words::word_at;
+use words::LineWord;
 
 // Numbers of a call: what it asks for, seconds, fraction.
 pub const NUMBERS: usize = 3;
@@ -37,11 +37,11 @@ fn put_call(calls: &mut [u64], at: usize, what: u64, time: Time)
 fn time_after(line: &[u8], earlier: Option<Time>) -> Option<Time>
     ensures { result ≡ time_after earlier line.now }
 {
-    let w = word_at(line, 0);
+    let w = LineWord::first(line);
     if w.is_empty() {
         return earlier;
     }
-    moment_in(w.text(line), earlier).ok().or(earlier)
+    moment_in(w.text(), earlier).ok().or(earlier)
 }
 
 // Takes a line: its call, if it has one, is put behind those that wait.

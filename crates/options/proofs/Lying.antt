@@ -1,26 +1,24 @@
--- What is taken word by word lies in the text, and so do the words of the options that come of it; the pages that are asked for lie in
--- the array. Each rule keeps this on every way that its tests can go. Assumes nothing.
-use Prim.Native.Nat.{ℕ, zero, suc, ◌+◌, ◌/◌, ◌^◌, ◌≤◌, ◌<◌}
+-- An option that wants a word has a place after each word, and the pages that are asked for lie in the array: each rule keeps this on
+-- every way that its tests can go. Assumes nothing.
+use Prim.Native.Nat.{ℕ, ◌+◌, ◌/◌, ◌^◌, ◌≤◌, ◌<◌}
 use mathlib.Core.Bool.{Bool, true, false, cond, not, ◌&&◌, ◌||◌}
-use mathlib.Core.List.{List, [], ◌∷◌}
+use mathlib.Core.List.{List}
 use mathlib.Core.Path.{◌≡◌, refl}
 use native.Mathlib.Nat.{div-lt_iff_lt-mul}
 use native.Mathlib.Omega.{arith}
 use borrow.Author.Tests.{ltb-true}
 use lib.Dec.{eqb, ltb}
-use lib.ListN.{set, replicate}
 use Rattle.cell.specs.Cell.{pages}
 use Rattle.control.specs.Blocks.{erase_range}
 use Rattle.control.specs.declared.Range.{Range}
 use Rattle.digits.specs.Digits.{hex_in}
 use Rattle.digits.specs.declared.NoNumber.{NoNumber}
-use Rattle.std.specs.Prelude.{Option, Some, None, Result, Ok, Err, MatchResult}
+use Rattle.std.specs.Prelude.{Option, Some, None, Result, Ok, Err, IfOk}
 use Rattle.std.specs.Option.{is_some}
 use Rattle.verdict.specs.Blocks.{pages_touched}
-use Rattle.words.specs.declared.Word.{Word}
-use Rattle.options.specs.Arguments.{bytes_of, help_place, image_place, restore_place, picture_place, snapshot_place, block_place, from_place, to_place, history_place, places, place_named, wants_word, value_below, fits, complaint, said_of, taken, dashed, plain, option, optional, valued, step_at}
+use Rattle.options.specs.Arguments.{Word, help_place, image_place, restore_place, block_place, from_place, to_place, history_place, places, place_named, wants_word, value_below, fits, said_of, dashed, plain, option, optional, valued, step_at}
 use Rattle.options.specs.Options.{block_in, address_in, pages_asked, range_asked, accepted, run_of, with_history, whole, ended}
-use Rattle.options.specs.Inside.{Lies, GivenLies, SaidLies, TroubleLies, StageLies, OptionsLie, AskedLies}
+use Rattle.options.specs.Inside.{StagePlaced, AskedLies}
 use Rattle.options.specs.declared.Asked.{Asked}
 use Rattle.options.specs.declared.Given.{Given}
 use Rattle.options.specs.declared.Stage.{Stage}
@@ -43,13 +41,13 @@ value-below bound (Ok n) h = by-test (ltb n bound) refl
     by-test false e = h
 value-below bound (Err none) h = h
 
-pub block_below : (args : List ℕ) (o : Option Word) → block_in args o < 6
-block_below args (Some w) = value-below 6 (hex_in 1 (bytes_of args w)) (omega arith)
-block_below args None = omega arith
+pub block_below : (o : Option Word) → block_in o < 6
+block_below (Some w) = value-below 6 (hex_in 1 w.now) (omega arith)
+block_below None = omega arith
 
-pub address_below : (args : List ℕ) (o : Option Word) → address_in args o < 0xC000
-address_below args (Some w) = value-below 0xC000 (hex_in 4 (bytes_of args w)) (omega arith)
-address_below args None = omega arith
+pub address_below : (o : Option Word) → address_in o < 0xC000
+address_below (Some w) = value-below 0xC000 (hex_in 4 w.now) (omega arith)
+address_below None = omega arith
 
 pub ruleset bounds = (block_below, address_below)
 
@@ -79,103 +77,67 @@ unfolding pages_asked
 asked-lies blocked block addressed from to f t =
     either_way RangeLies blocked (erase-lies (2 ^ block)) (either_way RangeLies addressed (touched-lies from to f t) (omega arith))
 
--- ---- what is given
+-- ---- the stage
 
-module _ (args : List ℕ) where
-  pub none_lies : (n : ℕ) → SaidLies args (replicate n None)
-  none_lies zero p = tt
-  none_lies (suc n) zero = tt
-  none_lies (suc n) (suc p) = none_lies n p
+module _ (said : List (Option Word)) (w : Word) where
+  abbrev Placed : Given → Type 0
+  Placed g = StagePlaced g.stage
 
-  set-lies : (said : List (Option Word)) (p : ℕ) (w : Word) → SaidLies args said → Lies args w → SaidLies args (set said p (Some w))
-  set-lies [] p w all here k = all k
-  set-lies (x ∷ said) zero w all here zero = here
-  set-lies (x ∷ said) zero w all here (suc k) = all (suc k)
-  set-lies (x ∷ said) (suc p) w all here zero = all zero
-  set-lies (x ∷ said) (suc p) w all here (suc k) = set-lies said p w (λ j. all (suc j)) here k
+  plain-placed : Placed (plain said w)
+  unfolding plain
+  plain-placed = either_way Placed (dashed w.now) tt (either_way Placed (is_some (said_of said history_place)) tt tt)
 
-  pub record TakenLies (g : Given) : Type 0 where
-    pub said : SaidLies args g.said
-    pub stage : StageLies args g.stage
+  option-placed : (p : ℕ) → p < places → Placed (option said p w)
+  unfolding option
+  option-placed p h = either_way Placed (is_some (said_of said p)) tt (either_way Placed (wants_word p) h tt)
 
-  complaint-lies : (p : ℕ) (w : Word) → Lies args w → TroubleLies args (complaint p w)
-  complaint-lies p w here = either_way (TroubleLies args) (eqb p 8) here (either_way (TroubleLies args) (eqb p 11) here here)
+  optional-placed : (p : ℕ) → p < places → Placed (optional said p w)
+  unfolding optional
+  optional-placed p h =
+      either_way Placed (eqb p help_place) tt (either_way Placed (eqb p history_place) plain-placed (option-placed p h))
 
-  module _ (said : List (Option Word)) (w : Word) (all : SaidLies args said) (here : Lies args w) where
-    taken-lies : (p : ℕ) → TakenLies (taken said p w)
-    taken-lies p = record { said = set-lies said p w all here; stage = tt }
+  valued-placed : (p : ℕ) → Placed (valued said p w)
+  unfolding valued
+  valued-placed p = either_way Placed (fits p w.now) tt tt
 
-    plain-lies : TakenLies (plain args said w)
-    unfolding plain
-    plain-lies =
-        either_way TakenLies (dashed (bytes_of args w)) (record { said = all; stage = here })
-        (either_way TakenLies (is_some (said_of said history_place)) (record { said = all; stage = here }) (taken-lies history_place))
+  pub step_placed : (stage : Stage) → StagePlaced stage → Placed (step_at said stage w)
+  unfolding step_at
+  step_placed Open h = optional-placed (place_named w.now) (place_within w.now)
+  step_placed (Wants p name) h = valued-placed p
+  step_placed Helped h = tt
+  step_placed (Wrong t) h = tt
 
-    option-lies : (p : ℕ) → p < places → TakenLies (option said p w)
-    unfolding option
-    option-lies p h =
-        either_way TakenLies (is_some (said_of said p)) (record { said = all; stage = here })
-        (either_way TakenLies (wants_word p) (record { said = all; stage = (h, here) }) (taken-lies p))
+-- ---- the options
 
-    optional-lies : (p : ℕ) → p < places → TakenLies (optional args said p w)
-    unfolding optional
-    optional-lies p h =
-        either_way TakenLies (eqb p help_place) (record { said = all; stage = tt })
-        (either_way TakenLies (eqb p history_place) plain-lies (option-lies p h))
+abbrev RangeAskedLies : Result Range Trouble → Type 0
+RangeAskedLies r = IfOk r RangeLies
 
-    valued-lies : (p : ℕ) → TakenLies (valued args said p w)
-    unfolding valued
-    valued-lies p = either_way TakenLies (fits p (bytes_of args w)) (taken-lies p) (record { said = all; stage = complaint-lies p w here })
+abbrev ResultLies : Result Asked Trouble → Type 0
+ResultLies r = IfOk r AskedLies
 
-    pub step-lies : (stage : Stage) → StageLies args stage → TakenLies (step_at args said stage w)
-    unfolding step_at
-    step-lies Open h = optional-lies (place_named (bytes_of args w)) (place_within (bytes_of args w))
-    step-lies (Wants p name) h = valued-lies p
-    step-lies Helped h = (record { said = all; stage = tt })
-    step-lies (Wrong t) h = (record { said = all; stage = h })
+range-lies : (b f t : Option Word) → RangeAskedLies (range_asked b f t)
+unfolding range_asked
+range-lies b f t =
+    either_way RangeAskedLies (is_some b && (is_some f || is_some t)) tt
+    (either_way RangeAskedLies (is_some f && not (is_some t) || is_some t && not (is_some f)) tt
+    (either_way RangeAskedLies (ltb (address_in t) (address_in f)) tt
+    (asked-lies (is_some b) (block_in b) (is_some f) (address_in f) (address_in t) (address_below f) (address_below t))))
 
-  -- ---- the options
+module _ (said : List (Option Word)) where
+  run-lies : (history : Word) (r : Result Range Trouble) → RangeAskedLies r → ResultLies (run_of said history r)
+  unfolding accepted
+  run-lies history (Ok range) h = h
+  run-lies history (Err t) h = tt
 
-  abbrev pub ResultLies : Result Asked Trouble → Type 0
-  ResultLies r = MatchResult r (AskedLies args) (TroubleLies args)
+  history-lies : (o : Option Word) → ResultLies (with_history said o)
+  history-lies None = tt
+  history-lies (Some history) =
+      either_way ResultLies (is_some (said_of said image_place) && is_some (said_of said restore_place)) tt
+      (run-lies history _ (range-lies (said_of said block_place) (said_of said from_place) (said_of said to_place)))
 
-  abbrev RangeAskedLies : Result Range Trouble → Type 0
-  RangeAskedLies r = MatchResult r RangeLies (TroubleLies args)
-
-  range-lies : (b f t : Option Word) → RangeAskedLies (range_asked args b f t)
-  unfolding range_asked
-  range-lies b f t =
-      either_way RangeAskedLies (is_some b && (is_some f || is_some t)) tt
-      (either_way RangeAskedLies (is_some f && not (is_some t) || is_some t && not (is_some f)) tt
-      (either_way RangeAskedLies (ltb (address_in args t) (address_in args f)) tt
-      (asked-lies (is_some b) (block_in args b) (is_some f) (address_in args f) (address_in args t) (address_below args f) (address_below args t))))
-
-  module _ (said : List (Option Word)) (all : SaidLies args said) where
-    accepted-lies : (history : Word) (r : Range) → Lies args history → RangeLies r → OptionsLie args (accepted args said history r)
-    unfolding accepted
-    accepted-lies history r here h =
-        record {
-          array = h;
-          history = here;
-          image = all image_place;
-          restore = all restore_place;
-          picture = all picture_place;
-          snapshot = all snapshot_place;
-        }
-
-    run-lies : (history : Word) (r : Result Range Trouble) → Lies args history → RangeAskedLies r → ResultLies (run_of args said history r)
-    run-lies history (Ok range) here h = accepted-lies history range here h
-    run-lies history (Err t) here h = h
-
-    history-lies : (o : Option Word) → GivenLies args o → ResultLies (with_history args said o)
-    history-lies None here = tt
-    history-lies (Some history) here =
-        either_way ResultLies (is_some (said_of said image_place) && is_some (said_of said restore_place)) tt
-        (run-lies history _ here (range-lies (said_of said block_place) (said_of said from_place) (said_of said to_place)))
-
-    pub ended-lies : (stage : Stage) → StageLies args stage → ResultLies (ended args said stage)
-    unfolding ended whole
-    ended-lies Open h = history-lies (said_of said history_place) (all history_place)
-    ended-lies (Wants p name) h = h.1
-    ended-lies Helped h = tt
-    ended-lies (Wrong t) h = h
+  pub ended_lies : (stage : Stage) → ResultLies (ended said stage)
+  unfolding ended whole
+  ended_lies Open = history-lies (said_of said history_place)
+  ended_lies (Wants p name) = tt
+  ended_lies Helped = tt
+  ended_lies (Wrong t) = tt

@@ -1,7 +1,8 @@
--- The arguments of the program as a text with a byte 0 after each word, and what is taken from it word by word: each option at most
+-- The arguments of the program as a text with a byte 0 after each word, and what is taken from its words one by one: each option at most
 -- once, in any order, with the word after it where it wants one, and one word that is no option, the history.
 -- Assumes nothing.
-use Rattle.std.specs.Prelude.{ℕ, suc, Bool, true, false, cond, ◌||◌, List, [], ◌∷◌, Option, Some, None, Result, Ok, Err, eqb, ltb, get_or, set, replicate}
+use Rattle.std.specs.Prelude.{ℕ, suc, Bool, true, false, cond, ◌||◌, List, [], ◌∷◌, Option, Some, None, Result, Ok, Err, map, eqb, ltb, get_or, set, replicate}
+use Rattle.std.specs.Borrow.{Bor}
 use Rattle.std.specs.Option.{is_some}
 use Rattle.std.specs.Result.{is_ok}
 use Rattle.byte_search.specs.Search.{slice}
@@ -9,7 +10,6 @@ use Rattle.digits.specs.Digits.{hex_in}
 use Rattle.digits.specs.declared.NoNumber.{NoNumber}
 use Rattle.moments.specs.Moments.{moment_of}
 use Rattle.words.specs.Text.{text, named}
-use Rattle.words.specs.declared.Word.{Word}
 use Rattle.options.specs.declared.Given.{Given}
 use Rattle.options.specs.declared.Stage.{Stage}
 use Rattle.options.specs.declared.Stage.TheVariants.{Open, Wants, Helped, Wrong}
@@ -18,18 +18,23 @@ use Rattle.options.specs.declared.Trouble.TheVariants.{NoSuchOption, NoBlock, No
 
 -- ---- the words
 
--- a stretch of the text as a word, and its bytes
-abbrev pub word : ℕ → ℕ → Word
-word from to = record { from = from; to = to }
+-- a word that is lent, and the bytes of all words of a list
+abbrev pub Word : Type 0
+Word = Bor (List ℕ)
 
-abbrev pub bytes_of : List ℕ → Word → List ℕ
-bytes_of args w = slice w.from w.to args
+abbrev pub all_bytes : List Word → List (List ℕ)
+all_bytes words = map (λ w. w.now) words
 
 -- the words of what is left of the text at a place, of which the first begins at `from`: each ends before a byte 0, and what has none
 -- after it is no word
-unfoldable pub words_from : ℕ → ℕ → List ℕ → List Word
-words_from from at [] = []
-words_from from at (b ∷ bs) = cond (eqb b 0) (word from at ∷ words_from (suc at) (suc at) bs) (words_from from (suc at) bs)
+unfoldable pub words_from : List ℕ → ℕ → ℕ → List ℕ → List (List ℕ)
+words_from args from at [] = []
+words_from args from at (b ∷ bs) =
+    cond (eqb b 0) (slice from at args ∷ words_from args (suc at) (suc at) bs) (words_from args from (suc at) bs)
+
+-- all of them
+abbrev pub words_of : List ℕ → List (List ℕ)
+words_of args = words_from args 0 0 args
 
 -- ---- the options
 
@@ -157,9 +162,9 @@ dashed [] = false
 dashed (b ∷ bs) = eqb b 45
 
 -- a word that is no option's name
-unfoldable pub plain : List ℕ → List (Option Word) → Word → Given
-plain args said w =
-    cond (dashed (bytes_of args w)) (reached said (Wrong (NoSuchOption w)))
+unfoldable pub plain : List (Option Word) → Word → Given
+plain said w =
+    cond (dashed w.now) (reached said (Wrong (NoSuchOption w)))
     (cond (is_some (said_of said history_place)) (reached said (Wrong (TwoHistories w))) (taken said history_place w))
 
 -- an option's name
@@ -169,26 +174,26 @@ option said p w =
     (cond (wants_word p) (reached said (Wants p w)) (taken said p w))
 
 -- a word where an option or the history is due, by its place among the names
-unfoldable pub optional : List ℕ → List (Option Word) → ℕ → Word → Given
-optional args said p w =
-    cond (eqb p help_place) (reached said Helped) (cond (eqb p history_place) (plain args said w) (option said p w))
+unfoldable pub optional : List (Option Word) → ℕ → Word → Given
+optional said p w =
+    cond (eqb p help_place) (reached said Helped) (cond (eqb p history_place) (plain said w) (option said p w))
 
 -- a word after an option
-unfoldable pub valued : List ℕ → List (Option Word) → ℕ → Word → Given
-valued args said p w = cond (fits p (bytes_of args w)) (taken said p w) (reached said (Wrong (complaint p w)))
+unfoldable pub valued : List (Option Word) → ℕ → Word → Given
+valued said p w = cond (fits p w.now) (taken said p w) (reached said (Wrong (complaint p w)))
 
 -- the next word: after `--help`, and after the first trouble, no word is looked at
-unfoldable pub step_at : List ℕ → List (Option Word) → Stage → Word → Given
-step_at args said Open w = optional args said (place_named (bytes_of args w)) w
-step_at args said (Wants p name) w = valued args said p w
-step_at args said Helped w = reached said Helped
-step_at args said (Wrong t) w = reached said (Wrong t)
+unfoldable pub step_at : List (Option Word) → Stage → Word → Given
+step_at said Open w = optional said (place_named w.now) w
+step_at said (Wants p name) w = valued said p w
+step_at said Helped w = reached said Helped
+step_at said (Wrong t) w = reached said (Wrong t)
 
 -- one word after the other
-unfoldable pub take_all : List ℕ → Given → List Word → Given
-take_all args g [] = g
-take_all args g (w ∷ ws) = take_all args (step_at args g.said g.stage w) ws
+unfoldable pub take_all : Given → List Word → Given
+take_all g [] = g
+take_all g (w ∷ ws) = take_all (step_at g.said g.stage w) ws
 
 -- what all words give
-abbrev pub given_by : List ℕ → Given
-given_by args = take_all args start (words_from 0 0 args)
+abbrev pub given_by : List Word → Given
+given_by words = take_all start words

@@ -1,4 +1,4 @@
--- The options that arguments give, or the first trouble with them: first what is wrong with one word, from left to right, then what is
+-- The options that the words of arguments give, or the first trouble with them: first what is wrong with one word, from left to right, then what is
 -- wrong with all of them together.
 -- Assumes nothing.
 use Rattle.std.specs.Prelude.{ℕ, Bool, cond, not, ◌&&◌, ◌||◌, List, Option, Some, None, Result, Ok, Err, ltb}
@@ -10,8 +10,7 @@ use Rattle.control.specs.declared.Range.{Range}
 use Rattle.digits.specs.Digits.{hex_in}
 use Rattle.moments.specs.Moments.{moment_of}
 use Rattle.verdict.specs.Blocks.{block_range, pages_touched}
-use Rattle.words.specs.declared.Word.{Word}
-use Rattle.options.specs.Arguments.{bytes_of, events_place, map_place, go_on_place, image_place, restore_place, picture_place, snapshot_place, block_place, from_place, to_place, at_place, history_place, value_below, block_bound, address_bound, said_of, given_by}
+use Rattle.options.specs.Arguments.{Word, events_place, map_place, go_on_place, image_place, restore_place, picture_place, snapshot_place, block_place, from_place, to_place, at_place, history_place, value_below, block_bound, address_bound, said_of, given_by}
 use Rattle.options.specs.declared.Asked.{Asked}
 use Rattle.options.specs.declared.Asked.TheVariants.{Help, Run}
 use Rattle.options.specs.declared.Options.{Options}
@@ -25,18 +24,18 @@ abbrev pub everything : Range
 everything = record { first = 0; pages = pages }
 
 -- what is given for a block and for an address, 0 where none is
-abbrev pub block_in : List ℕ → Option Word → ℕ
-block_in args (Some w) = value_below block_bound (hex_in 1 (bytes_of args w))
-block_in args None = 0
+abbrev pub block_in : Option Word → ℕ
+block_in (Some w) = value_below block_bound (hex_in 1 w.now)
+block_in None = 0
 
-abbrev pub address_in : List ℕ → Option Word → ℕ
-address_in args (Some w) = value_below address_bound (hex_in 4 (bytes_of args w))
-address_in args None = 0
+abbrev pub address_in : Option Word → ℕ
+address_in (Some w) = value_below address_bound (hex_in 4 w.now)
+address_in None = 0
 
 -- a time that is given
-abbrev pub time_in : List ℕ → Option Word → Option Time
-time_in args (Some w) = result_ok (moment_of None (bytes_of args w))
-time_in args None = None
+abbrev pub time_in : Option Word → Option Time
+time_in (Some w) = result_ok (moment_of None w.now)
+time_in None = None
 
 -- the pages that the verdict is about: those of a block, those in which a range of addresses lies, or all
 unfoldable pub pages_asked : Bool → ℕ → Bool → ℕ → ℕ → Range
@@ -44,16 +43,16 @@ pages_asked blocked block addressed from to =
     cond blocked (block_range block) (cond addressed (pages_touched from to) everything)
 
 -- the range that is asked for, by a block or by addresses
-unfoldable pub range_asked : List ℕ → Option Word → Option Word → Option Word → Result Range Trouble
-range_asked args block from to =
+unfoldable pub range_asked : Option Word → Option Word → Option Word → Result Range Trouble
+range_asked block from to =
     cond (is_some block && (is_some from || is_some to)) (Err BlockAndAddresses)
     (cond (is_some from && not (is_some to) || is_some to && not (is_some from)) (Err HalfARange)
-    (cond (ltb (address_in args to) (address_in args from)) (Err FromAfterTo)
-    (Ok (pages_asked (is_some block) (block_in args block) (is_some from) (address_in args from) (address_in args to)))))
+    (cond (ltb (address_in to) (address_in from)) (Err FromAfterTo)
+    (Ok (pages_asked (is_some block) (block_in block) (is_some from) (address_in from) (address_in to)))))
 
 -- the options where nothing is wrong
-unfoldable pub accepted : List ℕ → List (Option Word) → Word → Range → Options
-accepted args said history range =
+unfoldable pub accepted : List (Option Word) → Word → Range → Options
+accepted said history range =
     record {
       history = history;
       image = said_of said image_place;
@@ -63,32 +62,32 @@ accepted args said history range =
       events = is_some (said_of said events_place);
       map = is_some (said_of said map_place);
       go_on = is_some (said_of said go_on_place);
-      at = time_in args (said_of said at_place);
+      at = time_in (said_of said at_place);
       first = range.first;
       pages = range.pages;
     }
 
-abbrev pub run_of : List ℕ → List (Option Word) → Word → Result Range Trouble → Result Asked Trouble
-run_of args said history (Ok range) = Ok (Run (accepted args said history range))
-run_of args said history (Err t) = Err t
+abbrev pub run_of : List (Option Word) → Word → Result Range Trouble → Result Asked Trouble
+run_of said history (Ok range) = Ok (Run (accepted said history range))
+run_of said history (Err t) = Err t
 
 -- all words together, of which one has to be the history
-abbrev pub with_history : List ℕ → List (Option Word) → Option Word → Result Asked Trouble
-with_history args said None = Err NoHistory
-with_history args said (Some history) =
+abbrev pub with_history : List (Option Word) → Option Word → Result Asked Trouble
+with_history said None = Err NoHistory
+with_history said (Some history) =
     cond (is_some (said_of said image_place) && is_some (said_of said restore_place)) (Err ImageAndRestore)
-    (run_of args said history (range_asked args (said_of said block_place) (said_of said from_place) (said_of said to_place)))
+    (run_of said history (range_asked (said_of said block_place) (said_of said from_place) (said_of said to_place)))
 
-unfoldable pub whole : List ℕ → List (Option Word) → Result Asked Trouble
-whole args said = with_history args said (said_of said history_place)
+unfoldable pub whole : List (Option Word) → Result Asked Trouble
+whole said = with_history said (said_of said history_place)
 
 -- how the reading has ended
-unfoldable pub ended : List ℕ → List (Option Word) → Stage → Result Asked Trouble
-ended args said Open = whole args said
-ended args said (Wants p name) = Err (NothingAfter name)
-ended args said Helped = Ok Help
-ended args said (Wrong t) = Err t
+unfoldable pub ended : List (Option Word) → Stage → Result Asked Trouble
+ended said Open = whole said
+ended said (Wants p name) = Err (NothingAfter name)
+ended said Helped = Ok Help
+ended said (Wrong t) = Err t
 
--- what the arguments ask for
-unfoldable pub options_of : List ℕ → Result Asked Trouble
-options_of args = ended args (given_by args).said (given_by args).stage
+-- what the words ask for
+unfoldable pub options_of : List Word → Result Asked Trouble
+options_of words = ended (given_by words).said (given_by words).stage

@@ -1,7 +1,6 @@
 // What is made of the words that are taken.
 ghost use Rattle.std.specs.Prelude.{◌≡◌, ◌≤◌, ◌<◌};
 ghost use Rattle.options.specs.Arguments.{block_bound, address_bound};
-ghost use Rattle.options.specs.Inside.{SaidLies, GivenLies};
 ghost use Rattle.options.specs.Options.{pages_asked, range_asked, accepted, whole, ended};
 
 use crate::places::{
@@ -9,10 +8,9 @@ use crate::places::{
     said_of,
 };
 use crate::values::{address_in, block_in, time_in};
-use crate::{Asked, Options, Stage, Trouble};
+use crate::{Asked, Options, Said, Stage, Trouble};
 use control::Range;
 use verdict::blocks::{block_range, pages_touched};
-use words::Word;
 
 // The pages of the array, as a range counts them.
 const ALL: u16 = 384;
@@ -36,14 +34,12 @@ fn pages_asked(blocked: bool, block: u64, addressed: bool, from: u64, to: u64) -
 
 // The range that is asked for, by a block or by addresses.
 #[tactic(auto, using(crate::proofs::Lying::bounds), unfolding(crate::specs::Options::range_asked))]
-fn range_asked(
-    args: &[u8],
-    block: Option<Word>,
-    from: Option<Word>,
-    to: Option<Word>,
-) -> Result<Range, Trouble>
-    requires { GivenLies args.now block × GivenLies args.now from × GivenLies args.now to }
-    ensures { result ≡ range_asked args.now block from to }
+fn range_asked<'a>(
+    block: Option<&'a [u8]>,
+    from: Option<&'a [u8]>,
+    to: Option<&'a [u8]>,
+) -> Result<Range, Trouble<'a>>
+    ensures { result ≡ range_asked block.entry from.entry to.entry }
 {
     let by_block = block.is_some();
     let by_from = from.is_some();
@@ -54,18 +50,17 @@ fn range_asked(
     if (by_from & !by_to) | (by_to & !by_from) {
         return Err(Trouble::HalfARange);
     }
-    let first = address_in(args, from);
-    let last = address_in(args, to);
+    let first = address_in(from);
+    let last = address_in(to);
     if last < first {
         return Err(Trouble::FromAfterTo);
     }
-    Ok(pages_asked(by_block, block_in(args, block), by_from, first, last))
+    Ok(pages_asked(by_block, block_in(block), by_from, first, last))
 }
 
 #[tactic(auto, unfolding(crate::specs::Options::accepted))]
-fn accepted(args: &[u8], said: [Option<Word>; 13], history: Word, range: Range) -> Options
-    requires { SaidLies args.now said }
-    ensures { result ≡ accepted args.now said history range }
+fn accepted<'a>(said: Said<'a>, history: &'a [u8], range: Range) -> Options<'a>
+    ensures { result ≡ accepted said.entry history.entry range }
 {
     Options {
         history,
@@ -76,16 +71,15 @@ fn accepted(args: &[u8], said: [Option<Word>; 13], history: Word, range: Range) 
         events: is_given(said, EVENTS),
         map: is_given(said, MAP),
         go_on: is_given(said, GO_ON),
-        at: time_in(args, said_of(said, AT)),
+        at: time_in(said_of(said, AT)),
         first: range.first as usize,
         pages: range.pages as usize,
     }
 }
 
 #[tactic(auto, unfolding(crate::specs::Options::whole))]
-fn whole(args: &[u8], said: [Option<Word>; 13]) -> Result<Asked, Trouble>
-    requires { SaidLies args.now said }
-    ensures { result ≡ whole args.now said }
+fn whole<'a>(said: Said<'a>) -> Result<Asked<'a>, Trouble<'a>>
+    ensures { result ≡ whole said.entry }
 {
     let history = said_of(said, HISTORY).ok_or(Trouble::NoHistory)?;
     if is_given(said, IMAGE) & is_given(said, RESTORE) {
@@ -94,18 +88,17 @@ fn whole(args: &[u8], said: [Option<Word>; 13]) -> Result<Asked, Trouble>
     let block = said_of(said, BLOCK);
     let from = said_of(said, FROM);
     let to = said_of(said, TO);
-    let range = range_asked(args, block, from, to)?;
-    Ok(Asked::Run(accepted(args, said, history, range)))
+    let range = range_asked(block, from, to)?;
+    Ok(Asked::Run(accepted(said, history, range)))
 }
 
 // What is said at the end of the words, by the stage that the last of them leads to.
 #[tactic(auto, unfolding(crate::specs::Options::ended))]
-pub fn ended(args: &[u8], said: [Option<Word>; 13], stage: Stage) -> Result<Asked, Trouble>
-    requires { SaidLies args.now said }
-    ensures { result ≡ ended args.now said stage }
+pub fn ended<'a>(said: Said<'a>, stage: Stage<'a>) -> Result<Asked<'a>, Trouble<'a>>
+    ensures { result ≡ ended said.entry stage.entry }
 {
     match stage {
-        Stage::Open => whole(args, said),
+        Stage::Open => whole(said),
         Stage::Wants(_, name) => Err(Trouble::NothingAfter(name)),
         Stage::Helped => Ok(Asked::Help),
         Stage::Wrong(trouble) => Err(trouble),

@@ -4,7 +4,6 @@
 ghost use Rattle.options.specs.Inside.{Answer};
 
 use time::Time;
-use words::Word;
 
 mod ending;
 mod places;
@@ -13,19 +12,19 @@ mod values;
 
 // What the program is asked for.
 #[derive(Clone, Copy)]
-pub enum Asked {
+pub enum Asked<'a> {
     Help,
-    Run(Options),
+    Run(Options<'a>),
 }
 
 // What a run is asked for.
 #[derive(Clone, Copy)]
-pub struct Options {
-    pub history: Word,
-    pub image: Option<Word>,
-    pub restore: Option<Word>,
-    pub picture: Option<Word>,
-    pub snapshot: Option<Word>,
+pub struct Options<'a> {
+    pub history: &'a [u8],
+    pub image: Option<&'a [u8]>,
+    pub restore: Option<&'a [u8]>,
+    pub picture: Option<&'a [u8]>,
+    pub snapshot: Option<&'a [u8]>,
     pub events: bool,
     pub map: bool,
     pub go_on: bool,
@@ -38,48 +37,52 @@ pub struct Options {
 
 // What is wrong with the arguments, with the word that it lies in where that is one.
 #[derive(Clone, Copy, Debug, PartialEq, Eq)]
-pub enum Trouble {
-    NoSuchOption(Word),
+pub enum Trouble<'a> {
+    NoSuchOption(&'a [u8]),
     // An option that wants a word after it is the last.
-    NothingAfter(Word),
-    NoBlock(Word),
-    NoAddress(Word),
-    NoTime(Word),
+    NothingAfter(&'a [u8]),
+    NoBlock(&'a [u8]),
+    NoAddress(&'a [u8]),
+    NoTime(&'a [u8]),
     NoHistory,
-    TwoHistories(Word),
+    TwoHistories(&'a [u8]),
     ImageAndRestore,
     BlockAndAddresses,
     // One of --from and --to without the other.
     HalfARange,
     FromAfterTo,
     // An option that is given before.
-    Twice(Word),
+    Twice(&'a [u8]),
 }
 
 // What the next word is.
 #[derive(Clone, Copy)]
-pub enum Stage {
+pub enum Stage<'a> {
     // An option or the history.
     Open,
     // The word of the option at this place, whose name is this word.
-    Wants(usize, Word),
+    Wants(usize, &'a [u8]),
     // No matter, since the help is asked for.
     Helped,
     // No matter, since something is wrong.
-    Wrong(Trouble),
+    Wrong(Trouble<'a>),
 }
 
-// What the words up to a place give: the word of each place that is given, and the stage.
+// The word of each place that is given.
+pub type Said<'a> = [Option<&'a [u8]>; 13];
+
+// What the words up to a place give, and the stage.
 #[derive(Clone, Copy)]
-pub struct Given {
-    pub said: [Option<Word>; 13],
-    pub stage: Stage,
+pub struct Given<'a> {
+    pub said: Said<'a>,
+    pub stage: Stage<'a>,
 }
 
 // What the arguments ask for. They come one after the other, with a byte 0 after each.
-pub fn options_of(args: &[u8]) -> Result<Asked, Trouble>
+#[tactic(auto, using(crate::proofs::Lying::ended_lies), unfolding(crate::specs::Options::options_of))]
+pub fn options_of(args: &[u8]) -> Result<Asked<'_>, Trouble<'_>>
     ensures { Answer args.now result }
 {
     let given = taking::all_words(args);
-    ending::ended(args, given.said, given.stage)
+    ending::ended(given.said, given.stage)
 }

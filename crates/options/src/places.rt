@@ -4,7 +4,7 @@ ghost use Rattle.std.specs.Prelude.{◌≡◌, ◌<◌};
 ghost use Rattle.std.specs.Option.{is_some};
 ghost use Rattle.options.specs.Arguments.{places, said_of};
 
-use words::Word;
+use crate::Said;
 
 pub const HELP: usize = 0;
 
@@ -33,16 +33,16 @@ pub const AT: usize = 11;
 pub const HISTORY: usize = 12;
 
 // The word of a place, if it is given.
-pub fn said_of(said: [Option<Word>; 13], p: usize) -> Option<Word>
+pub fn said_of<'a>(said: Said<'a>, p: usize) -> Option<&'a [u8]>
     requires { p < places }
-    ensures { result ≡ said_of said p }
+    ensures { result ≡ said_of said.entry p }
 {
     said[p]
 }
 
-pub fn is_given(said: [Option<Word>; 13], p: usize) -> bool
+pub fn is_given(said: Said, p: usize) -> bool
     requires { p < places }
-    ensures { result ≡ is_some (said_of said p) }
+    ensures { result ≡ is_some (said_of said.entry p) }
 {
     said_of(said, p).is_some()
 }

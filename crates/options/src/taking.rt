@@ -1,15 +1,14 @@
 // What is taken from the arguments, word by word.
 ghost use Rattle.std.specs.Prelude.{◌≡◌, ◌<◌};
-ghost use Rattle.options.specs.Arguments.{bytes_of, places, place_named, taken, dashed, plain, option, optional, valued, step_at};
-ghost use Rattle.options.specs.Inside.{Lies, StageLies, AllTaken};
+ghost use Rattle.options.specs.Arguments.{places, place_named, taken, dashed, plain, option, optional, valued, step_at};
+ghost use Rattle.options.specs.Inside.{StagePlaced, AllTaken};
 
 use crate::places::{
     AT, BLOCK, EVENTS, FROM, GO_ON, HELP, HISTORY, IMAGE, MAP, PICTURE, RESTORE, SNAPSHOT, TO,
     is_given,
 };
 use crate::values::{complaint, fits};
-use crate::{Given, Stage, Trouble};
-use words::Word;
+use crate::{Given, Said, Stage, Trouble};
 use words::spelling::named;
 
 // The place of an option by its name, and the history's for any other word.
@@ -43,9 +42,9 @@ fn dashed(word: &[u8]) -> bool
     word.first() == Some(&b'-')
 }
 
-fn taken(said: [Option<Word>; 13], p: usize, word: Word) -> Given
+fn taken<'a>(said: Said<'a>, p: usize, word: &'a [u8]) -> Given<'a>
     requires { p < places }
-    ensures { result ≡ taken said p word }
+    ensures { result ≡ taken said.entry p word.entry }
 {
     let mut all = said;
     all[p] = Some(word);
@@ -56,11 +55,10 @@ fn taken(said: [Option<Word>; 13], p: usize, word: Word) -> Given
 }
 
 #[tactic(auto, unfolding(crate::specs::Arguments::plain))]
-fn plain(args: &[u8], said: [Option<Word>; 13], word: Word) -> Given
-    requires { Lies args.now word }
-    ensures { result ≡ plain args.now said word }
+fn plain<'a>(said: Said<'a>, word: &'a [u8]) -> Given<'a>
+    ensures { result ≡ plain said.entry word.entry }
 {
-    if dashed(word.text(args)) {
+    if dashed(word) {
         return Given {
             said,
             stage: Stage::Wrong(Trouble::NoSuchOption(word)),
@@ -76,9 +74,9 @@ fn plain(args: &[u8], said: [Option<Word>; 13], word: Word) -> Given
 }
 
 #[tactic(auto, unfolding(crate::specs::Arguments::option))]
-fn option(said: [Option<Word>; 13], p: usize, word: Word) -> Given
+fn option<'a>(said: Said<'a>, p: usize, word: &'a [u8]) -> Given<'a>
     requires { p < places }
-    ensures { result ≡ option said p word }
+    ensures { result ≡ option said.entry p word.entry }
 {
     if is_given(said, p) {
         return Given {
@@ -96,9 +94,9 @@ fn option(said: [Option<Word>; 13], p: usize, word: Word) -> Given
 }
 
 #[tactic(auto, unfolding(crate::specs::Arguments::optional))]
-fn optional(args: &[u8], said: [Option<Word>; 13], p: usize, word: Word) -> Given
-    requires { Lies args.now word × (p < places) }
-    ensures { result ≡ optional args.now said p word }
+fn optional<'a>(said: Said<'a>, p: usize, word: &'a [u8]) -> Given<'a>
+    requires { p < places }
+    ensures { result ≡ optional said.entry p word.entry }
 {
     if p == HELP {
         return Given {
@@ -107,17 +105,17 @@ fn optional(args: &[u8], said: [Option<Word>; 13], p: usize, word: Word) -> Give
         };
     }
     if p == HISTORY {
-        return plain(args, said, word);
+        return plain(said, word);
     }
     option(said, p, word)
 }
 
 #[tactic(auto, unfolding(crate::specs::Arguments::valued))]
-fn valued(args: &[u8], said: [Option<Word>; 13], p: usize, word: Word) -> Given
-    requires { Lies args.now word × (p < places) }
-    ensures { result ≡ valued args.now said p word }
+fn valued<'a>(said: Said<'a>, p: usize, word: &'a [u8]) -> Given<'a>
+    requires { p < places }
+    ensures { result ≡ valued said.entry p word.entry }
 {
-    if fits(args, p, word) {
+    if fits(p, word) {
         return taken(said, p, word);
     }
     Given {
@@ -127,19 +125,20 @@ fn valued(args: &[u8], said: [Option<Word>; 13], p: usize, word: Word) -> Given
 }
 
 #[tactic(auto, using(crate::proofs::Words::place_within), unfolding(crate::specs::Arguments::step_at))]
-fn step_at(args: &[u8], said: [Option<Word>; 13], stage: Stage, word: Word) -> Given
-    requires { Lies args.now word × StageLies args.now stage }
-    ensures { result ≡ step_at args.now said stage word }
+fn step_at<'a>(said: Said<'a>, stage: Stage<'a>, word: &'a [u8]) -> Given<'a>
+    requires { StagePlaced stage }
+    ensures { result ≡ step_at said.entry stage.entry word.entry }
 {
     match stage {
-        Stage::Open => optional(args, said, place_named(word.text(args)), word),
-        Stage::Wants(p, _) => valued(args, said, p, word),
+        Stage::Open => optional(said, place_named(word), word),
+        Stage::Wants(p, _) => valued(said, p, word),
         Stage::Helped | Stage::Wrong(_) => Given { said, stage },
     }
 }
 
 // What all words give.
-pub fn all_words(args: &[u8]) -> Given
+#[tactic(auto, using(crate::proofs::Reading::steps))]
+pub fn all_words(args: &[u8]) -> Given<'_>
     ensures { AllTaken args.now result }
 {
     let mut given = Given {
@@ -149,7 +148,7 @@ pub fn all_words(args: &[u8]) -> Given
     let mut from: usize = 0;
     for at in 0..args.len() {
         if args[at] == 0 {
-            given = step_at(args, given.said, given.stage, Word { from, to: at });
+            given = step_at(given.said, given.stage, &args[from..at]);
             from = at + 1;
         }
     }

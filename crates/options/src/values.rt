@@ -1,7 +1,6 @@
 // The words of options: which words an option can have, and what they stand for.
 ghost use Rattle.std.specs.Prelude.{◌≡◌};
-ghost use Rattle.options.specs.Arguments.{bytes_of, is_below, value_below, fits, complaint};
-ghost use Rattle.options.specs.Inside.{Lies, GivenLies};
+ghost use Rattle.options.specs.Arguments.{is_below, value_below, fits, complaint};
 ghost use Rattle.options.specs.Options.{time_in, block_in, address_in};
 
 use crate::Trouble;
@@ -9,7 +8,6 @@ use crate::places::{AT, BLOCK, FROM, TO};
 use digits::{NoNumber, hexadecimal};
 use moments::moment_in;
 use time::Time;
-use words::Word;
 
 const BLOCK_BOUND: u64 = 6;
 
@@ -41,26 +39,24 @@ fn value_below(bound: u64, n: Result<u64, NoNumber>) -> u64
 
 // Whether the option at a place can have a word.
 #[tactic(auto, unfolding(crate::specs::Arguments::fits))]
-pub fn fits(args: &[u8], p: usize, word: Word) -> bool
-    requires { Lies args.now word }
-    ensures { result ≡ fits p (bytes_of args.now word) }
+pub fn fits(p: usize, word: &[u8]) -> bool
+    ensures { result ≡ fits p word.now }
 {
-    let text = word.text(args);
     if p == BLOCK {
-        return is_below(BLOCK_BOUND, hexadecimal(text, 1));
+        return is_below(BLOCK_BOUND, hexadecimal(word, 1));
     }
     if p == FROM || p == TO {
-        return is_below(ADDRESS_BOUND, hexadecimal(text, 4));
+        return is_below(ADDRESS_BOUND, hexadecimal(word, 4));
     }
     if p == AT {
-        return moment_in(text, None).is_ok();
+        return moment_in(word, None).is_ok();
     }
     true
 }
 
 // What is wrong with a word that the option at a place can't have.
-pub fn complaint(p: usize, word: Word) -> Trouble
-    ensures { result ≡ complaint p word }
+pub fn complaint<'a>(p: usize, word: &'a [u8]) -> Trouble<'a>
+    ensures { result ≡ complaint p word.entry }
 {
     if p == BLOCK {
         return Trouble::NoBlock(word);
@@ -71,32 +67,29 @@ pub fn complaint(p: usize, word: Word) -> Trouble
     Trouble::NoAddress(word)
 }
 
-pub fn block_in(args: &[u8], given: Option<Word>) -> u64
-    requires { GivenLies args.now given }
-    ensures { result ≡ block_in args.now given }
+pub fn block_in(given: Option<&[u8]>) -> u64
+    ensures { result ≡ block_in given.entry }
 {
     match given {
-        Some(word) => value_below(BLOCK_BOUND, hexadecimal(word.text(args), 1)),
+        Some(word) => value_below(BLOCK_BOUND, hexadecimal(word, 1)),
         None => 0,
     }
 }
 
-pub fn address_in(args: &[u8], given: Option<Word>) -> u64
-    requires { GivenLies args.now given }
-    ensures { result ≡ address_in args.now given }
+pub fn address_in(given: Option<&[u8]>) -> u64
+    ensures { result ≡ address_in given.entry }
 {
     match given {
-        Some(word) => value_below(ADDRESS_BOUND, hexadecimal(word.text(args), 4)),
+        Some(word) => value_below(ADDRESS_BOUND, hexadecimal(word, 4)),
         None => 0,
     }
 }
 
-pub fn time_in(args: &[u8], given: Option<Word>) -> Option<Time>
-    requires { GivenLies args.now given }
-    ensures { result ≡ time_in args.now given }
+pub fn time_in(given: Option<&[u8]>) -> Option<Time>
+    ensures { result ≡ time_in given.entry }
 {
     match given {
-        Some(word) => moment_in(word.text(args), None).ok(),
+        Some(word) => moment_in(word, None).ok(),
         None => None,
     }
 }

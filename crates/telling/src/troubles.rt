@@ -5,25 +5,18 @@ use notices::{
     second_history, two_ranges,
 };
 use options::Trouble;
-use slices::part;
 use text::Text;
-use words::Word;
-
-// A word of the arguments, none where there are no such places.
-pub fn word_in(args: &[u8], word: Word) -> &[u8] {
-    part(args, word.from, word.to)
-}
 
 // The trouble as a text, with the word that it lies in.
-fn put_trouble(text: &mut Text, trouble: Trouble, args: &[u8]) {
+fn put_trouble(text: &mut Text, trouble: Trouble) {
     match trouble {
-        Trouble::NoSuchOption(word) => no_option(text, word_in(args, word)),
-        Trouble::NothingAfter(word) => no_word_after(text, word_in(args, word)),
-        Trouble::NoBlock(word) => no_block(text, word_in(args, word)),
-        Trouble::NoAddress(word) => no_address(text, word_in(args, word)),
-        Trouble::NoTime(word) => no_time(text, word_in(args, word)),
-        Trouble::TwoHistories(word) => second_history(text, word_in(args, word)),
-        Trouble::Twice(word) => text.say_word(b"wipe: @ is given twice\n", word_in(args, word)),
+        Trouble::NoSuchOption(word) => no_option(text, word),
+        Trouble::NothingAfter(word) => no_word_after(text, word),
+        Trouble::NoBlock(word) => no_block(text, word),
+        Trouble::NoAddress(word) => no_address(text, word),
+        Trouble::NoTime(word) => no_time(text, word),
+        Trouble::TwoHistories(word) => second_history(text, word),
+        Trouble::Twice(word) => text.say_word(b"wipe: @ is given twice\n", word),
         Trouble::NoHistory => no_history(text),
         Trouble::ImageAndRestore => text.say(
             b"wipe: --image and --restore exclude each other\n",
@@ -36,6 +29,6 @@ fn put_trouble(text: &mut Text, trouble: Trouble, args: &[u8]) {
 }
 
 // What is wrong with the arguments is said.
-pub fn complain<S: Print>(to: &S, trouble: Trouble, args: &[u8]) {
-    saying::say(to, |text| put_trouble(text, trouble, args));
+pub fn complain<S: Print>(to: &S, trouble: Trouble) {
+    saying::say(to, |text| put_trouble(text, trouble));
 }

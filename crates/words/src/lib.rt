@@ -1,11 +1,13 @@
 // Words of a line, and whether a word spells a name.
 #![tactic(auto)]
 
-ghost use Rattle.std.specs.Prelude.{◌≡◌, ◌≤◌, length, eqb};
+ghost use Rattle.std.specs.Prelude.{◌≡◌, ◌≤◌, length};
 ghost use Rattle.std.specs.List.{prefix_len};
-ghost use Rattle.byte_search.specs.Search.{slice};
 ghost use Rattle.words.specs.Words.{blank, in_word, word_at};
 
+pub use crate::line_word::LineWord;
+
+mod line_word;
 pub mod spelling;
 
 // A stretch of a line, from its first byte up to, not including, `to`. An empty one is no word, and stands where a word would begin.
@@ -13,23 +15,6 @@ pub mod spelling;
 pub struct Word {
     pub from: usize,
     pub to: usize,
-}
-
-impl Word {
-    // Whether no word stands there.
-    pub fn is_empty(self) -> bool
-        ensures { result ≡ eqb self.from self.to }
-    {
-        self.from == self.to
-    }
-
-    // The bytes of a word.
-    pub fn text(self, line: &[u8]) -> &[u8]
-        requires { (self.from ≤ self.to) × (self.to ≤ length line.now) }
-        ensures { result.now ≡ slice self.from self.to line.now }
-    {
-        &line[self.from..self.to]
-    }
 }
 
 fn blank(b: u8) -> bool
@@ -62,7 +47,7 @@ fn letters(bytes: &[u8]) -> usize
 
 // The next word from a place on.
 #[tactic(auto, using(crate::proofs::Next::is_word))]
-pub fn word_at(line: &[u8], at: usize) -> Word
+fn word_at(line: &[u8], at: usize) -> Word
     requires { at ≤ length line.now }
     ensures is { result ≡ word_at line.now at }
     ensures after { at ≤ result.from }
