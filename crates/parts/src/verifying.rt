@@ -1,16 +1,16 @@
 // Verify sensing: the four bytes that a settle senses.
-ghost use Rattle.std.specs.Prelude.{◌≡◌, true, ◌<◌, ◌≤◌, ◌+◌, length};
-ghost use Rattle.cell.specs.Cell.{array_bytes, array_cells, pages};
-ghost use Rattle.settle.specs.Pages.{slots_sound};
+ghost use Rattle.std.specs.Prelude.{◌≡◌, ◌≤◌, ◌+◌};
+ghost use Rattle.cell.specs.Cell.{array_bytes};
 ghost use Rattle.settle.specs.Settling.{verify_sense, sense_address, four_sensed, sensed_by};
+ghost use Rattle.settle.specs.Views.{cells_in};
 
 use bits::{EV, PV};
 use cell::Sense;
 use control::PendingSense;
 use control::verify::sense_due;
 use registers::Registers;
-use sensing::{ceilings, sense_byte};
-use settle::pages::byte_cells;
+use sensing::limits::Ceilings;
+use settle::cells::CellsRef;
 use time::Time;
 
 // By which limit control senses.
@@ -33,30 +33,22 @@ fn sense_address(pending: Option<PendingSense>) -> u16
 }
 
 // The four bytes from an address on, as their cells sense.
-fn sense_four(m: Sense, address: usize, indices: &[u16], array: &[u8], charges: &[u64]) -> [u8; 4]
-    requires { (length indices.now ≡ pages) × (slots_sound indices.now ≡ true) × (length array.now ≡ array_bytes) × (length charges.now ≡ array_cells) × (address + 4 ≤ array_bytes) }
-    ensures { result ≡ four_sensed m address (record { index = indices.now; array = array.now; charges = charges.now }) }
+fn sense_four(m: Sense, address: usize, cells: &CellsRef) -> [u8; 4]
+    requires { address + 4 ≤ array_bytes }
+    ensures { result ≡ four_sensed m address (cells_in cells.now) }
 {
-    let limits = ceilings(m);
+    let ceilings = Ceilings::of(m);
     let mut bytes = [0u8; 4];
     for k in 0..4 {
-        let cells = byte_cells(indices, array, charges, address + k);
-        bytes[k] = sense_byte(m, &limits, address + k, &cells);
+        bytes[k] = ceilings.sense_byte(address + k, &cells.of_byte(address + k));
     }
     bytes
 }
 
-// The sensed bytes after a settle that left index, array and charges as lent.
-pub fn sense(
-    registers: Registers,
-    time: Time,
-    indices: &[u16],
-    array: &[u8],
-    charges: &[u64],
-    old: [u8; 4],
-) -> [u8; 4]
-    requires { (length indices.now ≡ pages) × (slots_sound indices.now ≡ true) × (length array.now ≡ array_bytes) × (length charges.now ≡ array_cells) × (sense_address registers.verify_pending + 4 ≤ array_bytes) }
-    ensures { result ≡ sensed_by registers time (record { index = indices.now; array = array.now; charges = charges.now }) old }
+// The sensed bytes after a settle that left the cells so.
+pub fn sense(registers: Registers, time: Time, cells: &CellsRef, old: [u8; 4]) -> [u8; 4]
+    requires { sense_address registers.verify_pending + 4 ≤ array_bytes }
+    ensures { result ≡ sensed_by registers time (cells_in cells.now) old }
 {
     let pending = registers.verify_pending;
     let supply = registers.supply;
@@ -64,7 +56,7 @@ pub fn sense(
     let low = control % 16;
     if sense_due(pending, supply, time) & ((low == PV) | (low == EV)) {
         let address = usize::from(sense_address(pending));
-        return sense_four(verify_sense(control), address, indices, array, charges);
+        return sense_four(verify_sense(control), address, cells);
     }
     old
 }

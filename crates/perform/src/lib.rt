@@ -14,6 +14,7 @@ use parts::answering::{settled_answer, stored_answer};
 use parts::ending::end_pulse;
 use parts::verifying::sense;
 use registers::Call;
+use settle::cells::CellsRef;
 use settling::settle;
 use time::Time;
 
@@ -69,8 +70,13 @@ fn perform_settling(
     );
     let next = next(registers, call, time);
     let count = end_pulse(events, changed, call, next.control, pulse, next.pulse());
+    let cells = CellsRef {
+        index: &indices,
+        array,
+        charges,
+    };
     let old = flash.sensed;
-    let sensed = sense(registers, time, &indices, array, charges, old);
+    let sensed = sense(registers, time, &cells, old);
     let value = settled_answer(call, time, pulse, registers, sensed);
     let kept = sensed_after(call, sensed);
     Done {

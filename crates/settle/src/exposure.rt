@@ -16,21 +16,21 @@ pub struct Exposure<'a> {
 }
 
 impl Exposure<'_> {
-    ghost use Rattle.std.specs.Prelude.{◌≡◌, List, ℕ};
+    ghost use Rattle.std.specs.Prelude.{◌≡◌, Some, IfSome};
     ghost use Rattle.settle.specs.Pages.{Cells};
     ghost use Rattle.settle.specs.Settling.{covers, settled_by};
     ghost use Rattle.settle.specs.Views.{exposed};
 
-    // The exposure of a settle at a time, from a last settling on, and none where nothing changes.
-    pub fn at<'a>(
-        pulse: Option<Pulse>,
+    // The exposure of a pulse at a time, from a last settling on, and none where nothing changes.
+    pub fn of<'a>(
+        pulse: Pulse,
         latch: &'a [u8; PAGE],
         since: Time,
         time: Time,
     ) -> Option<Exposure<'a>>
-        ensures { (c : Cells) → settled_by pulse latch.now since time c ≡ exposed result c }
+        ensures settles { (c : Cells) → settled_by (Some pulse) latch.now since time c ≡ exposed result c }
+        ensures same_pulse { IfSome result (λ exposure. exposure.pulse ≡ pulse) }
     {
-        let pulse = pulse?;
         let ready = pulse.ready;
         let length = time.since(since.max(ready));
         if length.is_zero() {
@@ -41,6 +41,18 @@ impl Exposure<'_> {
             latch,
             length,
         })
+    }
+
+    // The exposure of a settle at a time, of the pulse that is open.
+    pub fn at<'a>(
+        pulse: Option<Pulse>,
+        latch: &'a [u8; PAGE],
+        since: Time,
+        time: Time,
+    ) -> Option<Exposure<'a>>
+        ensures { (c : Cells) → settled_by pulse latch.now since time c ≡ exposed result c }
+    {
+        Exposure::of(pulse?, latch, since, time)
     }
 
     // Whether it reaches a page.

@@ -5,10 +5,9 @@ ghost use Rattle.cell.specs.Cell.{array_bytes, array_cells, pages, tabulate};
 ghost use Rattle.settle.specs.Pages.{cell_at, opened, slot_for, on_page, slots_sound};
 ghost use Rattle.settle.specs.Settling.{charged};
 
+use crate::exposure::Exposure;
 use cell::{PAGE, PAGE_CELLS};
 use charging::{bit, charge_slot, first_charge, open_slot};
-use registers::Pulse;
-use time::Duration;
 
 // How many pages are opened, counted as wide as an entry, so that many entries are tested at once.
 pub fn opened(indices: &[u16]) -> usize
@@ -55,23 +54,23 @@ pub fn charge_page(
     charges: &mut [u64],
     page: usize,
     next: usize,
-    pulse: Pulse,
-    latch: &[u8; PAGE],
-    exposure: Duration,
+    exposure: &Exposure,
 ) -> usize
     requires { (length indices.old ≡ pages) × (slots_sound indices.old ≡ true) × (length array.now ≡ array_bytes) × (length charges.old ≡ array_cells) × (page < pages) × (next ≡ opened indices.old) }
-    ensures { (indices.new ≡ (on_page (charged pulse latch.now (span exposure)) page (record { index = indices.old; array = array.now; charges = charges.old })).index) × (charges.new ≡ (on_page (charged pulse latch.now (span exposure)) page (record { index = indices.old; array = array.now; charges = charges.old })).charges) × (result ≡ slot_for indices.old page) }
+    ensures { (indices.new ≡ (on_page (charged exposure.now.pulse exposure.now.latch.now (span exposure.now.length)) page (record { index = indices.old; array = array.now; charges = charges.old })).index) × (charges.new ≡ (on_page (charged exposure.now.pulse exposure.now.latch.now (span exposure.now.length)) page (record { index = indices.old; array = array.now; charges = charges.old })).charges) × (result ≡ slot_for indices.old page) }
 {
-    let direction = pulse.direction;
+    let direction = exposure.pulse.direction;
+    let latch = exposure.latch;
+    let length = exposure.length;
     let entry = usize::from(indices[page]);
     if entry == 0 {
         let from = page * PAGE;
         let to = from + PAGE;
         open_slot(charges, next, &array[from..to]);
         indices[page] = (next + 1) as u16;
-        charge_slot(charges, next, latch, direction, exposure);
+        charge_slot(charges, next, latch, direction, length);
         return next;
     }
-    charge_slot(charges, entry - 1, latch, direction, exposure);
+    charge_slot(charges, entry - 1, latch, direction, length);
     entry - 1
 }

@@ -5,8 +5,7 @@
 ghost use Rattle.std.specs.Prelude.{◌≡◌, true, ◌<◌, ◌≤◌, ◌+◌, ◌*◌, ◌-◌, length};
 ghost use Rattle.std.proofs.lemmas.List.Edits.{sets};
 ghost use Rattle.time.specs.Raw.{span};
-ghost use Rattle.cell.specs.declared.Sense.TheVariants.{Normal};
-ghost use Rattle.cell.specs.Cell.{array_bytes, array_cells, page_bytes, page_cells, pages, at, ceiling_table, sensed_byte};
+ghost use Rattle.cell.specs.Cell.{array_bytes, array_cells, page_bytes, page_cells, pages, at, sensed_byte};
 ghost use Rattle.registers.specs.Calls.{ending_number};
 ghost use Rattle.settle.specs.Pages.{slots_sound};
 ghost use Rattle.settle.specs.Settling.{expose, settled_by, spanned, changes, byte_kind, word, Left, range_bytes, range_end};
@@ -14,9 +13,10 @@ ghost use Rattle.settling.specs.Kinds.{kind_number};
 
 use cell::{PAGE, PAGE_CELLS, Sense};
 use registers::{Ending, Pulse};
-use sensing::{ceilings, sense_page};
+use sensing::limits::Ceilings;
+use settle::exposure::Exposure;
 use settle::pages::{charge_page, opened};
-use time::{Duration, Time};
+use time::Time;
 
 // What an event word tells: a byte that changed, or how a pulse ended.
 #[derive(Clone, Copy, Debug, PartialEq, Eq)]
@@ -73,7 +73,7 @@ fn store_page(
     bytes: &[u8; PAGE],
     count: usize,
 ) -> usize
-    requires { (length array.old ≡ array_bytes) × (length bytes.now ≡ page_bytes) × (address + page_bytes ≤ array_bytes) × (count + page_bytes ≤ length events.old) }
+    requires { (length array.old ≡ array_bytes) × (address + page_bytes ≤ array_bytes) × (count + page_bytes ≤ length events.old) }
     ensures { (array.new ≡ spanned address (address + page_bytes) (λ a. at bytes.now (a - address)) array.old) × (events.new ≡ sets events.old count (changes 0 array.old array.new)) × (result ≡ count + length (changes 0 array.old array.new)) }
 {
     let mut n = count;
@@ -89,29 +89,23 @@ fn store_page(
     n
 }
 
-// A page's bytes become what the cells in its slot normally sense.
+// A page's bytes become what the cells in its slot sense by the ceilings.
 fn resense_page(
     array: &mut [u8],
     charges: &[u64],
     events: &mut [u64],
-    limits: &[u64; 256],
+    ceilings: &Ceilings,
     slot: usize,
     page: usize,
     count: usize,
 ) -> usize
-    requires { (length array.old ≡ array_bytes) × (length charges.now ≡ array_cells) × (limits.now ≡ ceiling_table Normal) × (slot < pages) × (page < pages) × (count + page_bytes ≤ length events.old) }
-    ensures { (array.new ≡ spanned (page * page_bytes) (page * page_bytes + page_bytes) (λ a. sensed_byte Normal a (λ k. at charges.now (slot * page_cells + (8 * (a - page * page_bytes) + k)))) array.old) × (events.new ≡ sets events.old count (changes 0 array.old array.new)) × (result ≡ count + length (changes 0 array.old array.new)) }
+    requires { (length array.old ≡ array_bytes) × (length charges.now ≡ array_cells) × (slot < pages) × (page < pages) × (count + page_bytes ≤ length events.old) }
+    ensures { (array.new ≡ spanned (page * page_bytes) (page * page_bytes + page_bytes) (λ a. sensed_byte ceilings.now.sense a (λ k. at charges.now (slot * page_cells + (8 * (a - page * page_bytes) + k)))) array.old) × (events.new ≡ sets events.old count (changes 0 array.old array.new)) × (result ≡ count + length (changes 0 array.old array.new)) }
 {
     let mut bytes = [0u8; PAGE];
     let from = slot * PAGE_CELLS;
     let to = from + PAGE_CELLS;
-    sense_page(
-        Sense::Normal,
-        limits,
-        page * PAGE,
-        &charges[from..to],
-        &mut bytes,
-    );
+    ceilings.sense_page(page * PAGE, &charges[from..to], &mut bytes);
     store_page(array, events, page * PAGE, &bytes, count)
 }
 
@@ -121,28 +115,23 @@ pub fn expose(
     array: &mut [u8],
     charges: &mut [u64],
     events: &mut [u64],
-    pulse: Pulse,
-    latch: &[u8; PAGE],
-    exposure: Duration,
+    exposure: &Exposure,
 ) -> usize
-    requires { (length indices.old ≡ pages) × (slots_sound indices.old ≡ true) × (length array.old ≡ array_bytes) × (length charges.old ≡ array_cells) × (pulse.first + pulse.pages ≤ pages) × (pulse.pages * page_bytes ≤ length events.old) }
-    ensures { Left (expose pulse latch.now (span exposure) (record { index = indices.old; array = array.old; charges = charges.old })) (changes 0 array.old (expose pulse latch.now (span exposure) (record { index = indices.old; array = array.old; charges = charges.old })).array) events.old indices.new array.new charges.new events.new result }
+    requires { (length indices.old ≡ pages) × (slots_sound indices.old ≡ true) × (length array.old ≡ array_bytes) × (length charges.old ≡ array_cells) × (exposure.now.pulse.first + exposure.now.pulse.pages ≤ pages) × (exposure.now.pulse.pages * page_bytes ≤ length events.old) }
+    ensures { Left (expose exposure.now.pulse exposure.now.latch.now (span exposure.now.length) (record { index = indices.old; array = array.old; charges = charges.old })) (changes 0 array.old (expose exposure.now.pulse exposure.now.latch.now (span exposure.now.length) (record { index = indices.old; array = array.old; charges = charges.old })).array) events.old indices.new array.new charges.new events.new result }
 {
-    if exposure.is_zero() {
-        return 0;
-    }
-    let limits = ceilings(Sense::Normal);
-    let first = usize::from(pulse.first);
-    let number = usize::from(pulse.pages);
+    let ceilings = Ceilings::of(Sense::Normal);
+    let first = usize::from(exposure.pulse.first);
+    let number = usize::from(exposure.pulse.pages);
     let mut next = opened(indices);
     let mut count: usize = 0;
     for i in 0..number {
         let page = first + i;
-        let slot = charge_page(indices, array, charges, page, next, pulse, latch, exposure);
+        let slot = charge_page(indices, array, charges, page, next, exposure);
         if slot == next {
             next += 1;
         }
-        count = resense_page(array, charges, events, &limits, slot, page, count);
+        count = resense_page(array, charges, events, &ceilings, slot, page, count);
     }
     count
 }
@@ -161,12 +150,11 @@ pub fn settle(
     requires { (length indices.old ≡ pages) × (slots_sound indices.old ≡ true) × (length array.old ≡ array_bytes) × (length charges.old ≡ array_cells) × (range_end pulse ≤ pages) × (range_bytes pulse ≤ length events.old) }
     ensures { Left (settled_by pulse latch.now since time (record { index = indices.old; array = array.old; charges = charges.old })) (changes 0 array.old (settled_by pulse latch.now since time (record { index = indices.old; array = array.old; charges = charges.old })).array) events.old indices.new array.new charges.new events.new result }
 {
-    match pulse {
+    let Some(pulse) = pulse else {
+        return 0;
+    };
+    match Exposure::of(pulse, latch, since, time) {
         None => 0,
-        Some(p) => {
-            let ready = p.ready;
-            let exposure = time.since(since.max(ready));
-            expose(indices, array, charges, events, p, latch, exposure)
-        }
+        Some(exposure) => expose(indices, array, charges, events, &exposure),
     }
 }

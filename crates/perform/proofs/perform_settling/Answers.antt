@@ -11,9 +11,12 @@ pub end_pulse-count-requires : goal.end_pulse-count-requires
 end_pulse-count-requires c =
     let p = c.requires in (rw c.pulse-pulse.ensures p.0.pulse_inside, end-room _ _ c.requires.0 _ c.pulse-pulse.ensures c.settle-changed.ensures p.3)
 
-pub sense-sensed-requires : goal.sense-sensed-requires
-sense-sensed-requires c =
-    let p = c.requires in (index-left _ _ c.requires.0 _ c.pulse-pulse.ensures c.settle-changed.ensures, sound-left _ _ c.requires.0 _ c.pulse-pulse.ensures c.settle-changed.ensures, array-left _ _ c.requires.0 _ c.pulse-pulse.ensures c.settle-changed.ensures, charges-left _ _ c.requires.0 _ c.pulse-pulse.ensures c.settle-changed.ensures, p.0.sense_inside)
+pub invariant_of-cells : goal.invariant_of-cells
+invariant_of-cells c =
+    let f = c.requires.0 in
+    let o = c.pulse-pulse.ensures in
+    let left = c.settle-changed.ensures in
+    record { index_long = index-left _ _ f _ o left; array_long = array-left _ _ f _ o left; charges_long = charges-left _ _ f _ o left; sound = sound-left _ _ f _ o left }
 
 pub settled_answer-value-requires : goal.settled_answer-value-requires
 settled_answer-value-requires c =

@@ -3,7 +3,7 @@
 use mathlib.Core.Path.{◌≡◌, ap, sym, ◌∙◌}
 use Prim.Native.Nat.{◌+◌, ◌<◌}
 use native.Mathlib.Omega.{arith}
-use borrow.Author.Tests.{eqb-true, eqb-false}
+use mathlib.Core.Logic.{◌≢◌}
 use lib.ListN.{length}
 use Rattle.time.specs.Raw.{span}
 use Rattle.settle.specs.Pages.{Cells, opened}
@@ -11,16 +11,9 @@ use Rattle.settle.specs.Settling.{charged}
 use Rattle.settle.proofs.Slots.{SlotsOf, slots-from, slots-sound, opened-le}
 use Rattle.settle.proofs.Page.{slot_lt, page-slots}
 use Rattle.settle.proofs.Stored.{stored-length, stored-events, stored-le}
-use Rattle.settle.proofs.Turns.{cells, turn, left-none, turned_none, turned-all, turned-slots, turned-moves, turned-stays, turned_more}
+use Rattle.settle.proofs.Turns.{cells, turn, turned_none, turned-all, turned-slots, turned-moves, turned-stays, turned_more}
 use Rattle.settling.proofs.expose.Goals as goal
 use Rattle.settling.proofs.expose.Goals.{then-slot-next, else-slot-next}
-
-pub returns-then-is_zero : goal.returns-then-is_zero
-returns-then-is_zero c =
-    let x = c.args in
-    let k = cells x.indices.now x.array.now x.charges.now in
-    left-none x.pulse x.latch.now (span x.exposure) k x.events.now
-    (eqb-true (span x.exposure) 0 (sym c.is_zero.ensures ∙ c.if-is_zero.true))
 
 pub opened-next-requires : goal.opened-next-requires
 opened-next-requires c = c.requires.0
@@ -30,7 +23,7 @@ loop-i-init c =
     let x = c.args in
     let k = cells x.indices.now x.array.now x.charges.now in
     let slots = slots-from x.indices.now x.charges.now c.requires.0 c.requires.3 c.requires.1 in
-    turned_none x.pulse x.latch.now (span x.exposure) k x.events.now c.opened-next.result slots c.opened-next.ensures.0
+    turned_none x.exposure.now.pulse x.exposure.now.latch.now (span x.exposure.now.length) k x.events.now c.opened-next.result slots c.opened-next.ensures.0
 
 pub charge_page-slot-requires : goal.charge_page-slot-requires
 charge_page-slot-requires c =
@@ -52,10 +45,9 @@ resense_page-count-requires c =
     let e = rw c.from-first.ensures at c.charge_page-slot.ensures in
     let k : Cells = cells l.indices l.array l.charges in
     let z : SlotsOf k = turned-slots t in
-    let page = x.pulse.first + l.i in (
+    let page = x.exposure.now.pulse.first + l.i in (
       stored-length t.stored ∙ c.requires.2,
-      ap length e.1 ∙ (page-slots k z page (charged x.pulse x.latch.now (span x.exposure))).room,
-      c.ceilings-limits.ensures,
+      ap length e.1 ∙ (page-slots k z page (charged x.exposure.now.pulse x.exposure.now.latch.now (span x.exposure.now.length))).room,
       omega (arith, e.2, slot_lt k z page (omega arith)),
       omega arith,
       omega (arith, stored-le t.stored, stored-events t.stored, c.requires.5),
@@ -67,10 +59,10 @@ loop-i-preserved c =
     let l = c.loop-i in
     let t = l.invariant in
     let e = rw c.from-first.ensures at c.charge_page-slot.ensures in
-    let r = rw c.from-first.ensures at c.resense_page-count.ensures in
+    let r = rw (c.from-first.ensures, c.of-ceilings.ensures) at c.resense_page-count.ensures in
     let slot = c.charge_page-slot.result in
-    let inside : l.i < x.pulse.pages = omega arith in
-    let next : c.if-slot-next.next ≡ opened (turn x.pulse x.latch.now (span x.exposure) l.i l.indices l.array l.charges).index = elim c.if-slot-next.branch [
+    let inside : l.i < x.exposure.now.pulse.pages = omega arith in
+    let next : c.if-slot-next.next ≡ opened (turn x.exposure.now.pulse x.exposure.now.latch.now (span x.exposure.now.length) l.i l.indices l.array l.charges).index = elim c.if-slot-next.branch [
       | then-slot-next w ↦ w.next-is ∙ turned-moves t inside c.requires.4 slot e.2 (omega arith)
       | else-slot-next w ↦ w.next-is ∙ turned-stays t inside c.requires.4 slot e.2 (omega arith)
     ] in
@@ -95,7 +87,7 @@ returns c =
     let x = c.args in
     let l = c.loop-i in
     let t = l.invariant in
-    let e : l.i ≡ x.pulse.pages = omega arith in
-    let n = eqb-false (span x.exposure) 0 (sym c.is_zero.ensures ∙ c.if-is_zero.false) in
+    let e : l.i ≡ x.exposure.now.pulse.pages = omega arith in
+    let n : span x.exposure.now.length ≢ 0 = omega (arith, x.exposure.now.lasts) in
     let k = cells x.indices.now x.array.now x.charges.now in
-    turned-all x.pulse x.latch.now (span x.exposure) k x.events.now n (rw e at t)
+    turned-all x.exposure.now.pulse x.exposure.now.latch.now (span x.exposure.now.length) k x.events.now n (rw e at t)

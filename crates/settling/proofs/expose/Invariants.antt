@@ -6,4 +6,4 @@ use Rattle.settling.proofs.expose.Given as goal
 
 abbrev pub invariant-loop-i : goal.invariant-loop-i
 invariant-loop-i l =
-    Turned l.pulse l.latch (span l.exposure) (cells l.initial.indices l.initial.array l.initial.charges) l.initial.events l.i l.indices l.array l.charges l.events l.next l.count
+    Turned l.exposure.pulse l.exposure.latch.now (span l.exposure.length) (cells l.initial.indices l.initial.array l.initial.charges) l.initial.events l.i l.indices l.array l.charges l.events l.next l.count

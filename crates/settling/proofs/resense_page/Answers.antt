@@ -7,7 +7,6 @@ use native.Mathlib.Omega.{arith}
 use lib.ListN.{take, drop, replicate, length-replicate}
 use lib.Seq.{get_or-take, get_or-drop}
 use Rattle.cell.specs.declared.Sense.{Sense}
-use Rattle.cell.specs.declared.Sense.TheVariants.{Normal}
 use Rattle.cell.specs.Cell.{at, sensed_byte, sensed_page}
 use Rattle.cell.proofs.Maps.{get_or-mapi}
 use Rattle.cell.proofs.Sensed.{sensed_byte-same}
@@ -32,5 +31,5 @@ pub returns : goal.returns
 returns c =
     let x = c.args in
     let e = c.store_page.ensures in
-    let sensed = page-sensed Normal (x.page * 128) x.slot x.charges.now in
+    let sensed = page-sensed x.ceilings.now.sense (x.page * 128) x.slot x.charges.now in
     (e.0 ∙ spanned-same (x.page * 128) (x.page * 128 + 128) _ _ x.array.now (λ a h k _. rw c.sense_page.ensures (sensed a h k)), e.1, e.2)

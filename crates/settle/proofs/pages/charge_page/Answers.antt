@@ -39,8 +39,8 @@ returns-then-entry-eq0 c =
     let own : (i : ℕ) → i < 128 → at (take (from + 128 - from) (drop from x.array.now)) i ≡ at x.array.now (from + i) =
     λ i h. get_or-take (from + 128 - from) _ i 0 (omega arith) ∙ get_or-drop from x.array.now i 0 in
     let new : at x.indices.now x.page ≡ 0 = omega (arith, c.if-entry-eq0.true) in
-    let charges = page-opened x.pulse x.latch.now (span x.exposure) k x.page _ new own in (
-      ap (set x.indices.now x.page) (omega arith) ∙ sym (page-next (charged x.pulse x.latch.now (span x.exposure)) k x.page new),
+    let charges = page-opened x.exposure.now.pulse x.exposure.now.latch.now (span x.exposure.now.length) k x.page _ new own in (
+      ap (set x.indices.now x.page) (omega arith) ∙ sym (page-next (charged x.exposure.now.pulse x.exposure.now.latch.now (span x.exposure.now.length)) k x.page new),
       rw (c.charge_slot.ensures, c.open_slot.ensures, c.requires.5) (sym charges),
       c.requires.5 ∙ sym (slot_next x.indices.now x.page new),
     )
@@ -54,8 +54,8 @@ returns c =
     let x = c.args in
     let k : Cells = record { index = x.indices.now; array = x.array.now; charges = x.charges.now } in
     let old : at x.indices.now x.page ≡ suc (c.from-entry.result - 1) = omega arith in
-    let charges = page-charged x.pulse x.latch.now (span x.exposure) k x.page (c.from-entry.result - 1) old in (
-      sym (page-kept (charged x.pulse x.latch.now (span x.exposure)) k x.page (c.from-entry.result - 1) old),
+    let charges = page-charged x.exposure.now.pulse x.exposure.now.latch.now (span x.exposure.now.length) k x.page (c.from-entry.result - 1) old in (
+      sym (page-kept (charged x.exposure.now.pulse x.exposure.now.latch.now (span x.exposure.now.length)) k x.page (c.from-entry.result - 1) old),
       rw c.charge_slot-2.ensures (sym charges),
       sym (slot-own x.indices.now x.page (c.from-entry.result - 1) old),
     )
