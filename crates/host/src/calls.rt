@@ -5,25 +5,28 @@ ghost use Rattle.flash.specs.Chip.{answer_limit};
 ghost use Rattle.lent.specs.declared.Request.TheVariants.{WriteRegister, Write8, Read8, Read16, Protect, Reset, PowerOff, Environment};
 ghost use Rattle.lent.specs.Asked.{call_of, outcome, value_of, Told};
 ghost use Rattle.lent.specs.Looked.{answered};
+ghost use Rattle.lent.specs.Views.{memory_at, SameLent, Leaves};
 
 use ask::ask;
+use lent::memory::LentMut;
 use lent::{Answer, Request};
 use refusal::{Refusal, told};
 use time::Time;
 
 // Any call, with its count of event words put in its place: none on a refusal.
 fn called(
-    record: &mut [u8],
-    array: &mut [u8],
-    charges: &mut [u64],
+    memory: &mut LentMut,
     events: &mut [u64],
     request: Request,
     time: Time,
     count: &mut u64,
 ) -> Result<Answer, Refusal>
-    ensures { Told (outcome request time events.old (record { bytes = «record».old; array = array.old; charges = charges.old })) (told result) count.new «record».new array.new charges.new events.new × (value_of result ≡ (outcome request time events.old (record { bytes = «record».old; array = array.old; charges = charges.old })).value) × (value_of result < answer_limit (call_of request)) }
+    ensures same { SameLent memory.old memory.new }
+    ensures left { Leaves (outcome request time events.old (memory_at memory.old)) (told result) count.new memory.new events.new }
+    ensures value { value_of result ≡ (outcome request time events.old (memory_at memory.old)).value }
+    ensures limit { value_of result < answer_limit (call_of request) }
 {
-    let outcome = ask(record, array, charges, events, request, time);
+    let outcome = ask(memory, events, request, time);
     *count = outcome.unwrap_or_default().count as u64;
     outcome
 }
@@ -43,10 +46,13 @@ pub extern "C" fn flash_write_register(
 ) -> u32
     ensures { Told (outcome (WriteRegister address value) (record { 0 = seconds; 1 = fraction }) events.old (record { bytes = «record».old; array = array.old; charges = charges.old })) result count.new «record».new array.new charges.new events.new }
 {
-    told(called(
+    let mut memory = LentMut {
         record,
         array,
         charges,
+    };
+    told(called(
+        &mut memory,
         events,
         Request::WriteRegister(address, value),
         Time(seconds, fraction),
@@ -69,10 +75,13 @@ pub extern "C" fn flash_write8(
 ) -> u32
     ensures { Told (outcome (Write8 address value) (record { 0 = seconds; 1 = fraction }) events.old (record { bytes = «record».old; array = array.old; charges = charges.old })) result count.new «record».new array.new charges.new events.new }
 {
-    told(called(
+    let mut memory = LentMut {
         record,
         array,
         charges,
+    };
+    told(called(
+        &mut memory,
         events,
         Request::Write8(address, value),
         Time(seconds, fraction),
@@ -95,10 +104,13 @@ pub extern "C" fn flash_read8(
 ) -> u32
     ensures { Told (outcome (Read8 address) (record { 0 = seconds; 1 = fraction }) events.old (record { bytes = «record».old; array = array.old; charges = charges.old })) result count.new «record».new array.new charges.new events.new × (value.new ≡ answered result (outcome (Read8 address) (record { 0 = seconds; 1 = fraction }) events.old (record { bytes = «record».old; array = array.old; charges = charges.old })).value value.old) }
 {
-    let outcome = called(
+    let mut memory = LentMut {
         record,
         array,
         charges,
+    };
+    let outcome = called(
+        &mut memory,
         events,
         Request::Read8(address),
         Time(seconds, fraction),
@@ -128,10 +140,13 @@ pub extern "C" fn flash_read16(
 ) -> u32
     ensures { Told (outcome (Read16 address) (record { 0 = seconds; 1 = fraction }) events.old (record { bytes = «record».old; array = array.old; charges = charges.old })) result count.new «record».new array.new charges.new events.new × (value.new ≡ answered result (outcome (Read16 address) (record { 0 = seconds; 1 = fraction }) events.old (record { bytes = «record».old; array = array.old; charges = charges.old })).value value.old) }
 {
-    let outcome = called(
+    let mut memory = LentMut {
         record,
         array,
         charges,
+    };
+    let outcome = called(
+        &mut memory,
         events,
         Request::Read16(address),
         Time(seconds, fraction),
@@ -159,10 +174,13 @@ pub extern "C" fn flash_protect(
 ) -> u32
     ensures { Told (outcome Protect (record { 0 = seconds; 1 = fraction }) events.old (record { bytes = «record».old; array = array.old; charges = charges.old })) result count.new «record».new array.new charges.new events.new }
 {
-    told(called(
+    let mut memory = LentMut {
         record,
         array,
         charges,
+    };
+    told(called(
+        &mut memory,
         events,
         Request::Protect,
         Time(seconds, fraction),
@@ -183,10 +201,13 @@ pub extern "C" fn flash_reset(
 ) -> u32
     ensures { Told (outcome Reset (record { 0 = seconds; 1 = fraction }) events.old (record { bytes = «record».old; array = array.old; charges = charges.old })) result count.new «record».new array.new charges.new events.new }
 {
-    told(called(
+    let mut memory = LentMut {
         record,
         array,
         charges,
+    };
+    told(called(
+        &mut memory,
         events,
         Request::Reset,
         Time(seconds, fraction),
@@ -207,10 +228,13 @@ pub extern "C" fn flash_power_off(
 ) -> u32
     ensures { Told (outcome PowerOff (record { 0 = seconds; 1 = fraction }) events.old (record { bytes = «record».old; array = array.old; charges = charges.old })) result count.new «record».new array.new charges.new events.new }
 {
-    told(called(
+    let mut memory = LentMut {
         record,
         array,
         charges,
+    };
+    told(called(
+        &mut memory,
         events,
         Request::PowerOff,
         Time(seconds, fraction),
@@ -234,10 +258,13 @@ pub extern "C" fn flash_environment(
 ) -> u32
     ensures { Told (outcome (Environment mode «module» oscillator) (record { 0 = seconds; 1 = fraction }) events.old (record { bytes = «record».old; array = array.old; charges = charges.old })) result count.new «record».new array.new charges.new events.new }
 {
-    told(called(
+    let mut memory = LentMut {
         record,
         array,
         charges,
+    };
+    told(called(
+        &mut memory,
         events,
         Request::Environment(mode, module, oscillator),
         Time(seconds, fraction),

@@ -7,6 +7,7 @@ ghost use Rattle.lent.specs.Looked.{answered, register_refusal, register_answer,
 
 use layout::RECORD_LEN;
 use lent::making::make;
+use lent::memory::Lent;
 use refusal::{told, told_into};
 use see::{see_blank, see_byte, see_charge, see_image, see_normal, see_register};
 use time::Time;
@@ -62,10 +63,12 @@ pub extern "C" fn flash_peek(
 ) -> u32
     ensures { (result ≡ peek_refusal address (record { 0 = seconds; 1 = fraction }) (record { bytes = «record».now; array = array.now; charges = charges.now })) × (value.new ≡ answered result (peek_answer address (record { 0 = seconds; 1 = fraction }) (record { bytes = «record».now; array = array.now; charges = charges.now })) value.old) }
 {
-    told_into(
-        see_byte(record, array, charges, address, Time(seconds, fraction)),
-        value,
-    )
+    let lent = Lent {
+        record,
+        array,
+        charges,
+    };
+    told_into(see_byte(lent, address, Time(seconds, fraction)), value)
 }
 
 // The charge of a cell at a time.
@@ -82,15 +85,13 @@ pub extern "C" fn flash_cell_charge(
 ) -> u32
     ensures { (result ≡ charge_refusal address bit (record { 0 = seconds; 1 = fraction }) (record { bytes = «record».now; array = array.now; charges = charges.now })) × (charge.new ≡ answered result (charge_answer address bit (record { 0 = seconds; 1 = fraction }) (record { bytes = «record».now; array = array.now; charges = charges.now })) charge.old) }
 {
+    let lent = Lent {
+        record,
+        array,
+        charges,
+    };
     told_into(
-        see_charge(
-            record,
-            array,
-            charges,
-            address,
-            bit,
-            Time(seconds, fraction),
-        ),
+        see_charge(lent, address, bit, Time(seconds, fraction)),
         charge,
     )
 }
@@ -109,10 +110,12 @@ pub extern "C" fn flash_blank_page(
 ) -> u32
     ensures { (result ≡ blank_refusal address (record { 0 = seconds; 1 = fraction }) (record { bytes = «record».now; array = array.now; charges = charges.now })) × (blank.new ≡ answered result (blank_answer address (record { 0 = seconds; 1 = fraction }) (record { bytes = «record».now; array = array.now; charges = charges.now })) blank.old) }
 {
-    told_into(
-        see_blank(record, array, charges, address, Time(seconds, fraction)),
-        blank,
-    )
+    let lent = Lent {
+        record,
+        array,
+        charges,
+    };
+    told_into(see_blank(lent, address, Time(seconds, fraction)), blank)
 }
 
 // The image at a time, at the beginning of the output.
@@ -127,5 +130,10 @@ pub extern "C" fn flash_image(
 ) -> u32
     ensures { (result ≡ image_refusal (record { 0 = seconds; 1 = fraction }) (length out.old) (record { bytes = «record».now; array = array.now; charges = charges.now })) × (out.new ≡ image_left result (record { 0 = seconds; 1 = fraction }) (record { bytes = «record».now; array = array.now; charges = charges.now }) out.old) }
 {
-    told(see_image(record, array, charges, Time(seconds, fraction), out))
+    let lent = Lent {
+        record,
+        array,
+        charges,
+    };
+    told(see_image(lent, Time(seconds, fraction), out))
 }

@@ -5,6 +5,7 @@ ghost use Rattle.lent.specs.Looked.{answered};
 ghost use Rattle.snapshot.specs.Snapshot.{snapshot_of};
 ghost use Rattle.snapshot.specs.Asked.{valid_refusal, valid_answer, write_refusal, written_out, read_refusal, memory_read, Left};
 
+use lent::memory::{Lent, LentMut};
 use refusal::{told, told_into};
 use restore::read_snapshot;
 use save::write_snapshot;
@@ -31,7 +32,12 @@ pub extern "C" fn flash_write_snapshot(
 ) -> u32
     ensures { (result ≡ write_refusal (length out.old) (record { bytes = «record».now; array = array.now; charges = charges.now })) × (out.new ≡ written_out result (record { bytes = «record».now; array = array.now; charges = charges.now }) out.old) × (len.new ≡ answered result (length (snapshot_of (chip_in (record { bytes = «record».now; array = array.now; charges = charges.now })))) len.old) }
 {
-    match write_snapshot(record, array, charges, out) {
+    let lent = Lent {
+        record,
+        array,
+        charges,
+    };
+    match write_snapshot(lent, out) {
         Ok(length) => {
             *len = length as u64;
             0
@@ -52,5 +58,10 @@ pub extern "C" fn flash_read_snapshot(
 ) -> u32
     ensures { (result ≡ read_refusal (record { 0 = seconds; 1 = fraction }) bytes.entry.now (record { bytes = «record».old; array = array.old; charges = charges.old })) × Left (memory_read result bytes.entry.now (record { bytes = «record».old; array = array.old; charges = charges.old })) «record».new array.new charges.new }
 {
-    told(read_snapshot(bytes, record, array, charges, Time(seconds, fraction)))
+    let mut memory = LentMut {
+        record,
+        array,
+        charges,
+    };
+    told(read_snapshot(bytes, &mut memory, Time(seconds, fraction)))
 }

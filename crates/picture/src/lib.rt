@@ -21,7 +21,6 @@ use crate::shades::write_shades;
 use cell::{CELLS, PAGES};
 use flash::held::Held;
 use lent::memory::Lent;
-use lent::opening::opened_at;
 use refusal::Refusal;
 use time::Time;
 
@@ -37,15 +36,11 @@ fn opened_with_room(
     ensures chip { IfOk result (λ held. chip_of held ≡ chip_in (memory_in lent.entry)) }
     ensures room { OnOk result (needed ≤ room) }
 {
-    let flash = opened_at(lent.record, lent.array, lent.charges, false, time)?;
+    let held = lent.opened_at(false, time)?;
     if room < needed {
         return Err(Refusal::Output);
     }
-    Ok(Held {
-        flash,
-        array: lent.array,
-        charges: lent.charges,
-    })
+    Ok(held)
 }
 
 // A mark for each page at a time, written to the output.

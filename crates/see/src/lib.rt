@@ -7,13 +7,14 @@ ghost use Rattle.registers.specs.Pulses.{normal};
 ghost use Rattle.flash.specs.Looking.{blank_at};
 ghost use Rattle.layout.specs.Layout.{decoded};
 ghost use Rattle.lent.specs.Memory.{chip_in};
+ghost use Rattle.lent.specs.Views.{memory_in};
 ghost use Rattle.lent.specs.Looked.{register_refusal, register_answer, normal_refusal, peek_refusal, peek_answer, charge_refusal, charge_answer, blank_refusal, image_refusal, image_left};
 
 use access::register;
 use cell::FLASH_SIZE;
-use flash::held::Held;
 use lent::checking::{in_time, past_end};
-use lent::opening::{opened_at, opened_record};
+use lent::memory::Lent;
+use lent::opening::opened_record;
 use look::imaging::{blank_page, image, peek};
 use look::looking::cell_charge;
 use refusal::Refusal;
@@ -41,87 +42,43 @@ pub fn see_normal(record: &[u8], time: Time) -> Result<bool, Refusal>
 
 // A byte of the image at a time.
 #[tactic(auto, unfolding(lent::specs::Looked::peek_refusal, lent::specs::Looked::peek_answer))]
-pub fn see_byte(
-    record: &[u8],
-    array: &[u8],
-    charges: &[u64],
-    address: u16,
-    time: Time,
-) -> Result<u8, Refusal>
-    ensures { Answers (peek_refusal address time (record { bytes = «record».now; array = array.now; charges = charges.now })) (peek_answer address time (record { bytes = «record».now; array = array.now; charges = charges.now })) result }
+pub fn see_byte(lent: Lent, address: u16, time: Time) -> Result<u8, Refusal>
+    ensures { Answers (peek_refusal address time (memory_in lent.entry)) (peek_answer address time (memory_in lent.entry)) result }
 {
-    let flash = opened_at(record, array, charges, past_end(address), time)?;
-    let held = Held {
-        flash,
-        array,
-        charges,
-    };
+    let held = lent.opened_at(past_end(address), time)?;
     Ok(peek(&held, usize::from(address), time))
 }
 
 // A cell's charge at a time.
 #[tactic(auto, unfolding(lent::specs::Looked::charge_refusal, lent::specs::Looked::charge_answer))]
-pub fn see_charge(
-    record: &[u8],
-    array: &[u8],
-    charges: &[u64],
-    address: u16,
-    bit: u8,
-    time: Time,
-) -> Result<u64, Refusal>
-    ensures { Answers (charge_refusal address bit time (record { bytes = «record».now; array = array.now; charges = charges.now })) (charge_answer address bit time (record { bytes = «record».now; array = array.now; charges = charges.now })) result }
+pub fn see_charge(lent: Lent, address: u16, bit: u8, time: Time) -> Result<u64, Refusal>
+    ensures { Answers (charge_refusal address bit time (memory_in lent.entry)) (charge_answer address bit time (memory_in lent.entry)) result }
 {
     let misplaced = past_end(address) | (7 < bit);
-    let flash = opened_at(record, array, charges, misplaced, time)?;
-    let held = Held {
-        flash,
-        array,
-        charges,
-    };
+    let held = lent.opened_at(misplaced, time)?;
     let cell = 8 * usize::from(address) + usize::from(bit);
     Ok(cell_charge(&held, cell, time))
 }
 
 // Whether the page of an address is blank at a time.
 #[tactic(auto, unfolding(lent::specs::Looked::blank_refusal))]
-pub fn see_blank(
-    record: &[u8],
-    array: &[u8],
-    charges: &[u64],
-    address: u16,
-    time: Time,
-) -> Result<bool, Refusal>
-    ensures { Answers (blank_refusal address time (record { bytes = «record».now; array = array.now; charges = charges.now })) (blank_at time (chip_in (record { bytes = «record».now; array = array.now; charges = charges.now })) address) result }
+pub fn see_blank(lent: Lent, address: u16, time: Time) -> Result<bool, Refusal>
+    ensures { Answers (blank_refusal address time (memory_in lent.entry)) (blank_at time (chip_in (memory_in lent.entry)) address) result }
 {
-    let flash = opened_at(record, array, charges, past_end(address), time)?;
-    let held = Held {
-        flash,
-        array,
-        charges,
-    };
+    let held = lent.opened_at(past_end(address), time)?;
     Ok(blank_page(&held, usize::from(address), time))
 }
 
 // The image at a time, written to the output.
 #[tactic(auto, unfolding(lent::specs::Looked::sized_refusal, lent::specs::Looked::image_refusal))]
-pub fn see_image(
-    record: &[u8],
-    array: &[u8],
-    charges: &[u64],
-    time: Time,
-    out: &mut [u8],
-) -> Result<(), Refusal>
-    ensures { (told result ≡ image_refusal time (length out.old) (record { bytes = «record».now; array = array.now; charges = charges.now })) × (out.new ≡ image_left (told result) time (record { bytes = «record».now; array = array.now; charges = charges.now }) out.old) }
+pub fn see_image(lent: Lent, time: Time, out: &mut [u8]) -> Result<(), Refusal>
+    ensures refused { told result ≡ image_refusal time (length out.old) (memory_in lent.entry) }
+    ensures left { out.new ≡ image_left (told result) time (memory_in lent.entry) out.old }
 {
-    let flash = opened_at(record, array, charges, false, time)?;
+    let held = lent.opened_at(false, time)?;
     if out.len() < FLASH_SIZE {
         return Err(Refusal::Output);
     }
-    let held = Held {
-        flash,
-        array,
-        charges,
-    };
     image(&held, time, out);
     Ok(())
 }
