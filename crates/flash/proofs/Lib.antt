@@ -1,5 +1,6 @@
 pub mod Answers
 pub mod Fresh
 pub mod Inside
+pub mod Look
 pub mod Performs
 pub mod Room

@@ -1,51 +1,33 @@
 -- What an exposure leaves, cell by cell and byte by byte: a cell moves and a byte is sensed anew where it covers the page.
 -- Assumes nothing.
-use mathlib.Core.Path.{◌≡◌, refl, sym, ◌∙◌}
-use mathlib.Core.Bool.{true, false, cond}
+use mathlib.Core.Path.{◌≡◌, refl, ap, sym, ◌∙◌}
+use mathlib.Core.Bool.{true, false}
 use mathlib.Core.List.{List}
-use Prim.Native.Nat.{ℕ, zero, suc, ◌+◌, ◌*◌, ◌/◌, ◌%◌, ◌<◌}
+use Prim.Native.Nat.{ℕ, zero, suc, ◌+◌, ◌*◌, ◌/◌, ◌<◌, ◌≤◌}
 use native.Mathlib.Omega.{arith}
+use lib.Dec.{eqb-suc-zero}
 use lib.ListN.{length, take, drop, length-take, length-drop}
 use lib.Seq.{get_or-take, get_or-drop, ext_get_or}
 use Rattle.time.specs.Raw.{span}
 use Rattle.cell.specs.declared.Sense.TheVariants.{Normal}
-use Rattle.cell.specs.Cell.{at, tabulate, page_bit, exposed, sensed_byte}
+use Rattle.cell.specs.Cell.{at, mapi, tabulate, sensed_byte}
+use Rattle.cell.proofs.Maps.{get_or-mapi}
 use Rattle.cell.proofs.Table.{entry}
-use Rattle.cell.proofs.Sensed.{sensed_byte-same}
 use Rattle.registers.specs.declared.Pulse.{Pulse}
 use Rattle.settle.specs.declared.cells.CellsRef.{CellsRef}
 use Rattle.settle.specs.declared.exposure.Exposure.{Exposure}
 use Rattle.settle.specs.Pages.{Cells, cell_at}
-use Rattle.settle.specs.Settling.{covers, charged, ruled, normal_byte, expose}
+use Rattle.settle.specs.Settling.{covers, charged, expose}
 use Rattle.settle.specs.Views.{cells_in}
-use Rattle.flash.specs.Looking.{exposed_by}
 use Rattle.settle.proofs.Slots.{SlotsOf, slots-from}
-use Rattle.settle.proofs.Expose.{normal-same, resensed-here, resensed-else, expose-cell, expose-array-length}
+use Rattle.settle.proofs.Expose.{expose-array-length}
+use Rattle.flash.specs.Looking.{exposed_by, all_blank}
+use Rattle.flash.proofs.Look.{reaches, exposed-if, look-cell, look-kept, look-byte}
 
-exposed-if : (p : Pulse) (latch : List ℕ) (l i q : ℕ) → 0 < l → exposed_by p latch l i q ≡ cond (covers p (i / 1024)) (charged p latch l i q) q
-unfolding exposed_by ruled
-exposed-if p latch zero i q h = absurd (omega arith)
-exposed-if p latch (suc l) i q h = refl
-
-module _ (p : Pulse) (latch : List ℕ) (c : Cells) where
-  -- whatever it lasts
-  pub cell-exposed : SlotsOf c → (l i : ℕ) → i < 393216 → cell_at (expose p latch l c) i ≡ exposed_by p latch l i (cell_at c i)
-  unfolding expose exposed_by
-  cell-exposed inv zero i h = refl
-  cell-exposed inv (suc l) i h = expose-cell p latch l c inv i h
-
-  byte-ruled : (l : ℕ) → 0 < l → SlotsOf c → (a : ℕ) → a < length c.array → a < 49152 → covers p (a / 128) ≡ true
-      → at (expose p latch l c).array a ≡ normal_byte (cell_at (expose p latch l c)) a
-  unfolding expose
-  byte-ruled zero h inv a b m e = absurd (omega arith)
-  byte-ruled (suc l) h inv a b m e =
-      resensed-here p _ c.array a b e
-      ∙ normal-same _ _ a (λ k n. sym (expose-cell p latch l c inv (8 * a + k) (omega arith)))
-
-  byte-kept : (l : ℕ) (a : ℕ) → covers p (a / 128) ≡ false → at (expose p latch l c).array a ≡ at c.array a
-  unfolding expose
-  byte-kept zero a e = refl
-  byte-kept (suc l) a e = resensed-else p _ c.array a e
+-- one that lasts reaches the pages that it covers
+lasting : (p : Pulse) (l x : ℕ) → 0 < l → reaches p l x ≡ covers p x
+lasting p zero x h = absurd (omega arith)
+lasting p (suc l) x h = rw (eqb-suc-zero l)
 
 -- what an exposure leaves of cells
 abbrev pub after : Exposure → CellsRef → Cells
@@ -55,29 +37,42 @@ module _ (e : Exposure) (cells : CellsRef) where
   slots : SlotsOf (cells_in cells)
   slots = slots-from _ _ cells.index_long cells.charges_long cells.sound
 
-  cell-after : (i : ℕ) → i < 393216
-      → cell_at (after e cells) i ≡ cond (covers e.pulse (i / 1024)) (charged e.pulse e.latch.now (span e.length) i (cell_at (cells_in cells) i)) (cell_at (cells_in cells) i)
-  cell-after i h =
-      cell-exposed e.pulse e.latch.now (cells_in cells) slots (span e.length) i h ∙ exposed-if e.pulse e.latch.now (span e.length) i _ e.lasts
+  reached : (x : ℕ) → reaches e.pulse (span e.length) x ≡ covers e.pulse x
+  reached x = lasting e.pulse (span e.length) x e.lasts
+
+  cell-after : (i : ℕ) → i < 393216 → cell_at (after e cells) i ≡ exposed_by e.pulse e.latch.now (span e.length) i (cell_at (cells_in cells) i)
+  cell-after i h = look-cell e.pulse e.latch.now (span e.length) (cells_in cells) slots i h
 
   pub cell-else : (i : ℕ) → i < 393216 → covers e.pulse (i / 1024) ≡ false → cell_at (cells_in cells) i ≡ cell_at (after e cells) i
-  cell-else i h n = sym (cell-after i h ∙ rw n)
+  cell-else i h n = sym (cell-after i h ∙ exposed-if e.pulse e.latch.now (span e.length) i _ ∙ rw (reached (i / 1024), n))
 
   pub cell-here : (i : ℕ) → i < 393216 → covers e.pulse (i / 1024) ≡ true
-      → exposed e.pulse.direction (page_bit e.latch.now (i % 1024)) (span e.length) (cell_at (cells_in cells) i) ≡ cell_at (after e cells) i
-  unfolding charged
-  cell-here i h n = sym (cell-after i h ∙ rw n)
+      → charged e.pulse e.latch.now (span e.length) i (cell_at (cells_in cells) i) ≡ cell_at (after e cells) i
+  cell-here i h n = sym (cell-after i h ∙ exposed-if e.pulse e.latch.now (span e.length) i _ ∙ rw (reached (i / 1024), n))
 
   pub byte-else : (a : ℕ) → covers e.pulse (a / 128) ≡ false → at cells.array.now a ≡ at (after e cells).array a
-  byte-else a n = sym (byte-kept e.pulse e.latch.now (cells_in cells) (span e.length) a n)
+  byte-else a n = sym (look-kept e.pulse e.latch.now (span e.length) (cells_in cells) a (reached (a / 128) ∙ n))
 
-  -- from its cells' charges
-  pub byte-here : (a : ℕ) (charges : List ℕ) → a < 49152 → covers e.pulse (a / 128) ≡ true
-      → charges ≡ tabulate (λ k. cell_at (after e cells) (8 * a + k)) 8 → sensed_byte Normal a (at charges) ≡ at (after e cells).array a
-  unfolding normal_byte
-  byte-here a charges h n m =
-      rw m (sensed_byte-same Normal a _ _ (λ k b. entry (λ k. cell_at (after e cells) (8 * a + k)) 8 k b))
-      ∙ sym (byte-ruled e.pulse e.latch.now (cells_in cells) (span e.length) e.lasts slots a (rw cells.array_long h) h n)
+  -- from its cells, charged
+  pub byte-here : (a : ℕ) (old moved : List ℕ) → a < 49152 → covers e.pulse (a / 128) ≡ true
+      → old ≡ tabulate (λ k. cell_at (cells_in cells) (8 * a + k)) 8
+      → moved ≡ mapi (λ k q. charged e.pulse e.latch.now (span e.length) (8 * a + k) q) 0 old
+      → sensed_byte Normal a (at moved) ≡ at (after e cells).array a
+  byte-here a old moved h n d m =
+      look-byte e.pulse e.latch.now (span e.length) (cells_in cells) a (at moved) (rw cells.array_long h) (reached (a / 128) ∙ n) each
+    where
+      g : ℕ → ℕ
+      g k = cell_at (cells_in cells) (8 * a + k)
+
+      f : ℕ → ℕ → ℕ
+      f k q = charged e.pulse e.latch.now (span e.length) (8 * a + k) q
+
+      each : (k : ℕ) → k < 8 → at moved k ≡ exposed_by e.pulse e.latch.now (span e.length) (8 * a + k) (g k)
+      each k b =
+          let page : (8 * a + k) / 1024 ≡ a / 128 = omega arith in
+          let moves : exposed_by e.pulse e.latch.now (span e.length) (8 * a + k) (g k) ≡ f k (g k) =
+          exposed-if e.pulse e.latch.now (span e.length) (8 * a + k) (g k) ∙ rw (page, reached (a / 128), n) in
+          rw (m, d, moves) (get_or-mapi f (tabulate g 8) k b ∙ ap (f k) (entry g 8 k b))
 
   pub page-else : (x : ℕ) → covers e.pulse x ≡ false
       → take 128 (drop (x * 128) cells.array.now) ≡ take 128 (drop (x * 128) (after e cells).array)
@@ -89,6 +84,15 @@ module _ (e : Exposure) (cells : CellsRef) where
           let k : i < 128 = omega (arith, simp length-take at h) in
           let d : (x * 128 + i) / 128 ≡ x = omega arith in
           simp (get_or-take, get_or-drop) (byte-else (x * 128 + i) (rw d n))
+
+  -- a page that stays is blank if it was
+  pub blank-else : (x : ℕ) → covers e.pulse x ≡ false → (n a : ℕ) → x * 128 ≤ a → a + n ≤ x * 128 + 128
+      → all_blank n a cells.array.now ≡ all_blank n a (after e cells).array
+  unfolding all_blank
+  blank-else x n zero a h k = refl
+  blank-else x n (suc m) a h k =
+      let page : a / 128 ≡ x = omega arith in
+      rw (byte-else a (rw page n), blank-else x n m (suc a) (omega arith) (omega arith))
 
   pub after-long : length (after e cells).array ≡ 49152
   after-long = expose-array-length e.pulse e.latch.now (span e.length) (cells_in cells) ∙ cells.array_long

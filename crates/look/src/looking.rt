@@ -1,8 +1,10 @@
 // Looking at a time: what a settle then would leave, worked out for what is asked, and nothing kept. Here the exposure that a look
 // adds, and charges.
 ghost use Rattle.std.specs.Prelude.{◌≡◌, ◌<◌};
+ghost use Rattle.time.specs.Raw.{span};
 ghost use Rattle.cell.specs.Cell.{array_cells};
 ghost use Rattle.settle.specs.Pages.{cell_at};
+ghost use Rattle.settle.specs.Settling.{charged};
 ghost use Rattle.settle.specs.Views.{cells_in, exposed};
 ghost use Rattle.flash.specs.Chip.{cells, settled_at};
 ghost use Rattle.flash.specs.Looking.{charge_at};
@@ -28,10 +30,19 @@ pub fn exposure_at<'a>(held: &'a Held<'_>, time: Time) -> Option<Exposure<'a>>
     )
 }
 
+// The charge of the cell i of the exposed pages, which had a charge.
+pub fn charged(exposure: &Exposure, i: usize, charge: u64) -> u64
+    ensures { result ≡ charged exposure.now.pulse exposure.now.latch.now (span exposure.now.length) i charge }
+{
+    let j = i % PAGE_CELLS;
+    let bit = bit(exposure.latch[j / 8], j % 8);
+    expose(exposure.pulse.direction, bit, exposure.length, charge)
+}
+
 // The charge of the cell i after an exposure.
-pub fn charge_after(cells: CellsRef, exposure: Option<Exposure>, i: usize) -> u64
+pub fn charge_after(cells: &CellsRef, exposure: &Option<Exposure>, i: usize) -> u64
     requires { i < array_cells }
-    ensures { result ≡ cell_at (exposed exposure.entry (cells_in cells.entry)) i }
+    ensures { result ≡ cell_at (exposed exposure.now (cells_in cells.now)) i }
 {
     let charge = cells.charge(i);
     let Some(exposure) = exposure else {
@@ -40,9 +51,7 @@ pub fn charge_after(cells: CellsRef, exposure: Option<Exposure>, i: usize) -> u6
     if !exposure.covers(i / PAGE_CELLS) {
         return charge;
     }
-    let j = i % PAGE_CELLS;
-    let bit = bit(exposure.latch[j / 8], j % 8);
-    expose(exposure.pulse.direction, bit, exposure.length, charge)
+    charged(exposure, i, charge)
 }
 
 // The charge of the cell i at a time.
@@ -51,5 +60,5 @@ pub fn cell_charge(held: &Held, i: usize, time: Time) -> u64
     requires { i < array_cells }
     ensures { result ≡ charge_at time (chip_of held.now) i }
 {
-    charge_after(held.cells(), exposure_at(held, time), i)
+    charge_after(&held.cells(), &exposure_at(held, time), i)
 }

@@ -12,9 +12,9 @@ use settle::exposure::Exposure;
 
 // Whether a cell of a page holds a charge after an exposure.
 #[tactic(auto, using(crate::proofs::Held::turns))]
-pub fn holds_charge(cells: CellsRef, exposure: Option<Exposure>, page: usize) -> bool
+pub fn holds_charge(cells: &CellsRef, exposure: &Option<Exposure>, page: usize) -> bool
     requires { page < pages }
-    ensures { result ≡ holds_charge (cell_at (exposed exposure.entry (cells_in cells.entry))) page_cells (page * page_cells) }
+    ensures { result ≡ holds_charge (cell_at (exposed exposure.now (cells_in cells.now))) page_cells (page * page_cells) }
 {
     let start = page * PAGE_CELLS;
     for i in 0..PAGE_CELLS {

@@ -18,7 +18,7 @@ pub fn charged(held: &Held, page: usize, time: Time) -> bool
     requires { page < pages }
     ensures { result ≡ charged_at time (chip_of held.now) page }
 {
-    holds_charge(held.cells(), exposure_at(held, time), page)
+    holds_charge(&held.cells(), &exposure_at(held, time), page)
 }
 
 // The mark of a page at a time.

@@ -36,9 +36,9 @@ pub fn shade(charge: u64) -> u8
 
 // The shades of all cells after an exposure, into `out`, whose bytes past them stay.
 #[tactic(auto, using(crate::proofs::Written::writes))]
-fn write_exposed(cells: CellsRef, exposure: Option<Exposure>, out: &mut [u8])
+fn write_exposed(cells: &CellsRef, exposure: &Option<Exposure>, out: &mut [u8])
     requires { array_cells ≤ length out.old }
-    ensures { out.new ≡ written (λ i. shade_of (cell_at (exposed exposure.entry (cells_in cells.entry)) i)) array_cells out.old }
+    ensures { out.new ≡ written (λ i. shade_of (cell_at (exposed exposure.now (cells_in cells.now)) i)) array_cells out.old }
 {
     for i in 0..CELLS {
         out[i] = shade(charge_after(cells, exposure, i));
@@ -51,5 +51,5 @@ pub fn write_shades(held: &Held, time: Time, out: &mut [u8])
     requires { array_cells ≤ length out.old }
     ensures { out.new ≡ written (shade_at time (chip_of held.now)) array_cells out.old }
 {
-    write_exposed(held.cells(), exposure_at(held, time), out);
+    write_exposed(&held.cells(), &exposure_at(held, time), out);
 }

@@ -1,33 +1,14 @@
--- `look::imaging::write_image` meets its contract. The loop's invariant: the image's first pages are stored, as many as were passed. A page
--- that the exposure does not cover is the stored one. Assumes nothing.
-use mathlib.Core.Path.{◌≡◌, ap, sym, ◌∙◌}
-use Prim.Native.Nat.{◌+◌, ◌-◌, ◌*◌}
+-- `look::imaging::write_image` meets its contract: without an exposure the image is the stored array.
+-- Assumes nothing.
+use mathlib.Core.Path.{ap, ◌∙◌}
 use native.Mathlib.Omega.{arith}
-use lib.ListN.{take, drop}
-use lib.Seq.{sets}
-use Rattle.look.proofs.After.{after, after-long, page-else}
-use Rattle.look.proofs.Stores.{sets_more, sets-all}
+use lib.Seq.{sets, take_all}
 use Rattle.look.proofs.imaging.write_image.Goals as goal
-use Rattle.look.proofs.imaging.write_image.Goals.{then-covers, else-covers}
 
-pub loop-page-preserved : goal.loop-page-preserved
-loop-page-preserved c =
-    let l = c.loop-page in
+pub returns-in_default : goal.returns-in_default
+returns-in_default c =
     let x = c.args in
-    let n = l.page * 128 in
-    let long = after-long x.exposure x.cells in
-    let next : (l.page + 1) * 128 ≡ n + 128 = omega arith in
-    let page : n + 128 - n ≡ 128 = omega arith in
-    let written : c.if-covers.out ≡ sets l.out n (take 128 (drop n (after x.exposure x.cells).array)) =
-    elim c.if-covers.branch [
-      | then-covers w ↦ w.out-is ∙ w.write_exposed.ensures
-      | else-covers w ↦
-          w.out-is ∙ w.write_stored.ensures ∙ rw page (ap (sets l.out n) (page-else x.exposure x.cells l.page (sym c.covers.ensures ∙ w.if-covers.false)))
-    ] in
-    rw next (sets_more _ _ _ _ n 128 l.invariant written (omega arith))
+    c.write_stored.ensures ∙ rw c.in_default.is (ap (sets x.out.now 0) (take_all 49152 x.cells.now.array.now (omega arith)))
 
 pub returns : goal.returns
-returns c =
-    let l = c.loop-page in
-    let long = after-long c.args.exposure c.args.cells in
-    sets-all _ _ _ (l.page * 128) l.invariant (omega arith)
+returns c = rw c.in-Some.is c.write_pages.ensures

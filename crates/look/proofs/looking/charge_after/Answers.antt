@@ -1,16 +1,14 @@
 -- `look::looking::charge_after` meets its contract: a cell moves where the exposure covers its page, and by the rule of one cell.
 -- Assumes nothing.
 use mathlib.Core.Path.{sym, ◌∙◌}
-use Rattle.cell.specs.Cell.{page_bit}
 use Rattle.look.proofs.After.{cell-else, cell-here}
 use Rattle.look.proofs.looking.charge_after.Goals as goal
 
 pub returns-then-not-covers : goal.returns-then-not-covers
 returns-then-not-covers c =
-    c.charge-charge.ensures ∙ rw c.in-Some.is (cell-else c.in-Some.exposure c.args.cells _ c.requires (sym c.covers.ensures ∙ c.if-not-covers.true))
+    c.charge-charge.ensures ∙ rw c.in-Some.is (cell-else c.in-Some.exposure c.args.cells.now _ c.requires (sym c.covers.ensures ∙ c.if-not-covers.true))
 
 pub returns : goal.returns
-unfolding page_bit
 returns c =
     let e = sym c.covers.ensures ∙ c.if-not-covers.false in
-    c.expose.ensures ∙ rw (c.bit-bit.ensures, c.charge-charge.ensures, c.in-Some.is) (cell-here c.in-Some.exposure c.args.cells _ c.requires e)
+    c.charged.ensures ∙ rw (c.charge-charge.ensures, c.in-Some.is) (cell-here c.in-Some.exposure c.args.cells.now _ c.requires e)
