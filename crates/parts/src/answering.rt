@@ -51,18 +51,18 @@ pub fn settled_answer(
     ensures { (result ≡ settled_answer call time pulse registers sensed) × (result < answer_limit call) }
 {
     match call {
-        Call::WriteRegister(_, _) => 0,
-        Call::Write8(_, _) => 0,
         Call::Read8(a) => u16::from(unserved(a, time, pulse, registers, sensed)),
         Call::Read16(a) => {
             let high = u16::from(unserved(a, time, pulse, registers, sensed));
             let low = u16::from(unserved(a + 1, time, pulse, registers, sensed));
             256 * high + low
         }
-        Call::Protect => 0,
-        Call::Reset => 0,
-        Call::PowerOff => 0,
-        Call::Environment(_, _, _) => 0,
+        Call::WriteRegister(_, _)
+        | Call::Write8(_, _)
+        | Call::Protect
+        | Call::Reset
+        | Call::PowerOff
+        | Call::Environment(_, _, _) => 0,
     }
 }
 
@@ -72,13 +72,13 @@ pub fn stored_answer(call: Call, registers: Registers, time: Time, array: &[u8])
     ensures { (result ≡ stored_answer call array.now) × (result < answer_limit call) }
 {
     match call {
-        Call::WriteRegister(_, _) => 0,
-        Call::Write8(_, _) => 0,
         Call::Read8(a) => u16::from(serve_byte(registers, time, array, a as usize)),
         Call::Read16(a) => serve_word(registers, time, array, a as usize),
-        Call::Protect => 0,
-        Call::Reset => 0,
-        Call::PowerOff => 0,
-        Call::Environment(_, _, _) => 0,
+        Call::WriteRegister(_, _)
+        | Call::Write8(_, _)
+        | Call::Protect
+        | Call::Reset
+        | Call::PowerOff
+        | Call::Environment(_, _, _) => 0,
     }
 }

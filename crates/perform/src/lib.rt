@@ -27,18 +27,18 @@ pub struct Done {
 }
 
 // The sensed bytes after a call whose settle left some.
+#[tactic(auto, unfolding(flash::specs::Chip::blank_sensed))]
 fn sensed_after(call: Call, sensed: [u8; 4]) -> [u8; 4]
     ensures { result ≡ sensed_after call sensed }
 {
     match call {
-        Call::WriteRegister(_, _) => sensed,
-        Call::Write8(_, _) => sensed,
-        Call::Read8(_) => sensed,
-        Call::Read16(_) => sensed,
-        Call::Protect => sensed,
-        Call::Reset => [0xFF; 4],
-        Call::PowerOff => [0xFF; 4],
-        Call::Environment(_, _, _) => sensed,
+        Call::Reset | Call::PowerOff => [0xFF; 4],
+        Call::WriteRegister(_, _)
+        | Call::Write8(_, _)
+        | Call::Read8(_)
+        | Call::Read16(_)
+        | Call::Protect
+        | Call::Environment(_, _, _) => sensed,
     }
 }
 
