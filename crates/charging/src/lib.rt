@@ -2,7 +2,7 @@
 #![tactic(auto)]
 
 ghost use Rattle.std.specs.Prelude.{◌≡◌, ◌-◌, ◌*◌, ◌^◌, ◌<◌, ◌≤◌, min, length};
-ghost use Rattle.cell.specs.Cell.{bit, rate, moved, exposed, first_charge, opened_page, opened_slot, charged_page, charged_slot, page_bytes, page_cells, array_cells, pages};
+ghost use Rattle.cell.specs.Cell.{bit, rate, moved, exposed, first_charge, opened_page, opened_slot, charged_page, charged_slot, page_cells, array_cells, pages};
 ghost use Rattle.time.specs.Raw.{span};
 
 use cell::{Direction, FULL, PAGE, PAGE_CELLS};
@@ -86,8 +86,8 @@ pub fn first_charge(stored: u8) -> u64
 }
 
 // A page's first charges, from its stored bytes: each is read once for its eight cells.
-fn open(cells: &mut [u64], bytes: &[u8])
-    requires { (length cells.old ≡ page_cells) × (length bytes.now ≡ page_bytes) }
+fn open(cells: &mut [u64], bytes: &[u8; PAGE])
+    requires { length cells.old ≡ page_cells }
     ensures { cells.new ≡ opened_page bytes.now cells.old }
 {
     for i in 0..PAGE {
@@ -115,8 +115,8 @@ fn charge(cells: &mut [u64], latch: &[u8; PAGE], direction: Direction, exposure:
 }
 
 // A page takes a slot of the charge store.
-pub fn open_slot(charges: &mut [u64], slot: usize, bytes: &[u8])
-    requires { (length charges.old ≡ array_cells) × (slot < pages) × (length bytes.now ≡ page_bytes) }
+pub fn open_slot(charges: &mut [u64], slot: usize, bytes: &[u8; PAGE])
+    requires { (length charges.old ≡ array_cells) × (slot < pages) }
     ensures { charges.new ≡ opened_slot slot bytes.now charges.old }
 {
     let from = slot * PAGE_CELLS;

@@ -64,9 +64,8 @@ pub fn charge_page(
     let length = exposure.length;
     let entry = usize::from(indices[page]);
     if entry == 0 {
-        let from = page * PAGE;
-        let to = from + PAGE;
-        open_slot(charges, next, &array[from..to]);
+        let (stored, _) = array.as_chunks::<PAGE>();
+        open_slot(charges, next, &stored[page]);
         indices[page] = (next + 1) as u16;
         charge_slot(charges, next, latch, direction, length);
         return next;

@@ -32,4 +32,4 @@ unfolding opened_page
 returns c =
     let l = c.loop-i in
     let e : 8 * l.i ≡ 1024 = omega arith in
-    l.invariant ∙ partly-all _ _ _ (e ∙ sym c.requires.0)
+    l.invariant ∙ partly-all _ _ _ (e ∙ sym c.requires)

@@ -1,7 +1,7 @@
 -- `parts::verifying::sense_four` meets its contract. The loop's invariant: each place passed holds the byte that its cells sense. Assumes
 -- nothing.
 use mathlib.Core.Path.{◌≡◌, ap, ◌∙◌}
-use lib.ListN.{length, replicate}
+use lib.ListN.{replicate}
 use Prim.Native.Nat.{ℕ, ◌+◌, ◌*◌}
 use mathlib.Core.List.{List}
 use Rattle.cell.specs.declared.Sense.{Sense}
