@@ -15,11 +15,7 @@ const ROOM: usize = 65536;
 struct TooLong;
 
 // Argument i is put behind those before it, with a byte 0 after it. Answers whether there is such an argument.
-fn collect_one<R: Env + Eprint>(
-    rt: &R,
-    args: &mut Text,
-    i: usize,
-) -> Result<bool, TooLong> {
+fn collect_one<R: Env + Eprint>(rt: &R, args: &mut Text, i: usize) -> Result<bool, TooLong> {
     let mut word = [0u8; PATH_ROOM];
     match rt.arg(i, &mut word) {
         Ok(n) => {
