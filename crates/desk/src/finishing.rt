@@ -1,6 +1,7 @@
 // The end of a run: the files that were asked for, the report, and last the verdict.
 use crate::Memory;
 use course::Course;
+use lent::memory::Lent;
 use options::Options;
 use slices::first;
 use std::rt::Files;
@@ -22,22 +23,17 @@ fn files_drafted<R: Files, S: Print>(
     memory: &mut Memory,
     time: Time,
 ) -> Result<(), Told> {
-    snapshot_drafted(
-        rt,
-        snapshot,
-        says,
-        &memory.record,
-        &memory.array,
-        &memory.charges,
-        &mut memory.buffer,
-    )?;
+    let lent = Lent {
+        record: &memory.record,
+        array: &memory.array,
+        charges: &memory.charges,
+    };
+    snapshot_drafted(rt, snapshot, says, lent, &mut memory.buffer)?;
     picture_drafted(
         rt,
         picture,
         says,
-        &memory.record,
-        &memory.array,
-        &memory.charges,
+        lent,
         &mut memory.buffer,
         time,
     )
@@ -100,9 +96,7 @@ pub fn finish<R: Files + Print, S: Print>(
         counts_of(course),
         judged,
         options.map,
-        &memory.record,
-        &memory.array,
-        &memory.charges,
+        memory.lent(),
         time,
     )
     .map_err(|why| {

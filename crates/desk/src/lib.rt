@@ -9,6 +9,7 @@ use cell::{CELLS, FLASH_SIZE};
 use course::memory::{Array, BUFFER, Buffer, Charges, EVENT_WORDS, Events, Record};
 use course::{Manner, begun};
 use layout::RECORD_LEN;
+use lent::memory::Lent;
 use options::{Asked, Options, options_of};
 use session::read_history;
 use std::rt::Files;
@@ -25,6 +26,17 @@ struct Memory {
     charges: Charges,
     events: Events,
     buffer: Buffer,
+}
+
+impl Memory {
+    // What is looked at.
+    fn lent(&self) -> Lent<'_> {
+        Lent {
+            record: &self.record,
+            array: &self.array,
+            charges: &self.charges,
+        }
+    }
 }
 
 // A constant, since the arrays of a literal are first made beside the struct, and both have no room on a stack of 8 MB.

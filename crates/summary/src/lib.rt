@@ -6,6 +6,7 @@ ghost use Rattle.refusal.specs.Refusal.{number, told};
 ghost use Rattle.flash.specs.Looking.{image_at};
 ghost use Rattle.lent.specs.Memory.{chip_in};
 ghost use Rattle.lent.specs.Looked.{look_refusal};
+ghost use Rattle.lent.specs.Views.{memory_in};
 ghost use Rattle.text.specs.Says.{Says};
 ghost use Rattle.summary.specs.Summary.{map_text, summary_text};
 ghost use Rattle.summary.specs.Reported.{Shows, marks_at, report_text, Reports};
@@ -64,33 +65,24 @@ pub fn summary(
 // The image at a time, in an array of its length.
 fn image_at(
     image: &mut [u8; FLASH_SIZE],
-    record: &[u8],
-    array: &[u8],
-    charges: &[u64],
+    lent: Lent,
     time: Time,
 ) -> Result<(), Refusal>
-    ensures { Shows (look_refusal false time (record { bytes = «record».now; array = array.now; charges = charges.now })) (image_at time (chip_in (record { bytes = «record».now; array = array.now; charges = charges.now }))) (told result) image.new }
+    ensures { Shows (look_refusal false time (memory_in lent.entry)) (image_at time (chip_in (memory_in lent.entry))) (told result) image.new }
 {
-    see_image(record, array, charges, time, image)
+    see_image(lent, time, image)
 }
 
 // The marks of all pages at a time, where the map is asked for.
 fn marks_for(
     map: bool,
-    record: &[u8],
-    array: &[u8],
-    charges: &[u64],
+    lent: Lent,
     time: Time,
 ) -> Result<[u8; PAGES], Refusal>
-    ensures { MatchResult result (λ marks. map_text map marks ≡ map_text map (marks_at time (chip_in (record { bytes = «record».now; array = array.now; charges = charges.now })))) (λ refusal. number refusal ≡ look_refusal false time (record { bytes = «record».now; array = array.now; charges = charges.now })) }
+    ensures { MatchResult result (λ marks. map_text map marks ≡ map_text map (marks_at time (chip_in (memory_in lent.entry)))) (λ refusal. number refusal ≡ look_refusal false time (memory_in lent.entry)) }
 {
     let mut marks = [0u8; PAGES];
     if map {
-        let lent = Lent {
-            record,
-            array,
-            charges,
-        };
         see_marks(lent, time, &mut marks)?;
     }
     Ok(marks)
@@ -102,16 +94,14 @@ pub fn report(
     counts: Counts,
     judged: Judged,
     map: bool,
-    record: &[u8],
-    array: &[u8],
-    charges: &[u64],
+    lent: Lent,
     time: Time,
 ) -> Result<usize, Refusal>
-    ensures { Reports (look_refusal false time (record { bytes = «record».now; array = array.now; charges = charges.now })) (report_text counts judged map time (chip_in (record { bytes = «record».now; array = array.now; charges = charges.now }))) out.old out.new result }
+    ensures { Reports (look_refusal false time (memory_in lent.entry)) (report_text counts judged map time (chip_in (memory_in lent.entry))) out.old out.new result }
 {
     let mut image = [0u8; FLASH_SIZE];
-    image_at(&mut image, record, array, charges, time)?;
-    let marks = marks_for(map, record, array, charges, time)?;
+    image_at(&mut image, lent, time)?;
+    let marks = marks_for(map, lent, time)?;
     let mut text = Text { out, at: 0 };
     summary(&mut text, counts, &image, map, &marks, judged);
     Ok(text.at)

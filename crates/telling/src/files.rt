@@ -37,15 +37,13 @@ pub fn snapshot_drafted<R: Files, S: Print>(
     rt: &R,
     path: &[u8],
     says: &S,
-    record: &[u8],
-    array: &[u8],
-    charges: &[u64],
+    lent: Lent,
     buffer: &mut [u8],
 ) -> Result<(), Told> {
     if path.is_empty() {
         return Ok(());
     }
-    let length = write_snapshot(record, array, charges, buffer).map_err(|_| unwritten(says, path))?;
+    let length = write_snapshot(lent, buffer).map_err(|_| unwritten(says, path))?;
     drafted(rt, path, says, b"", first(buffer, length))
 }
 
@@ -54,20 +52,13 @@ pub fn picture_drafted<R: Files, S: Print>(
     rt: &R,
     path: &[u8],
     says: &S,
-    record: &[u8],
-    array: &[u8],
-    charges: &[u64],
+    lent: Lent,
     buffer: &mut [u8],
     time: Time,
 ) -> Result<(), Told> {
     if path.is_empty() {
         return Ok(());
     }
-    let lent = Lent {
-        record,
-        array,
-        charges,
-    };
     see_shades(lent, time, buffer).map_err(|_| unwritten(says, path))?;
     let mut head = [0u8; HEAD];
     let mut text = Text {

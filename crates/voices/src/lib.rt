@@ -2,6 +2,7 @@
 #![tactic(auto)]
 
 ghost use Rattle.std.specs.Prelude.{List, ℕ, take};
+ghost use Rattle.lent.specs.Views.{memory_in};
 ghost use Rattle.text.specs.Says.{Says};
 ghost use Rattle.course.specs.Desk.{desk, events_said, value_said, call_said, looked_refusal, looked, Leaves};
 
@@ -10,6 +11,7 @@ use answers::answered;
 use course::{Complaint, Course, Manner, after_left_out};
 use grammar::Looking;
 use lent::Request;
+use lent::memory::Lent;
 use sayings::events::event;
 use text::Text;
 use time::Time;
@@ -79,17 +81,15 @@ pub fn call_said(
 pub fn look(
     course: Course,
     manner: Manner,
-    record: &[u8],
-    array: &[u8],
-    charges: &[u64],
+    lent: Lent,
     line: u64,
     time: Time,
     looking: Looking,
     out: &mut [u8],
 ) -> Seeing
-    ensures { (events : List ℕ) → Leaves (looked manner line looking time (looked_refusal looking time (record { bytes = «record».now; array = array.now; charges = charges.now })) (desk course (record { bytes = «record».now; array = array.now; charges = charges.now }) events)) result.course (record { bytes = «record».now; array = array.now; charges = charges.now }) events result.complaint out.old out.new result.end }
+    ensures { (events : List ℕ) → Leaves (looked manner line looking time (looked_refusal looking time (memory_in lent.entry)) (desk course (memory_in lent.entry) events)) result.course (memory_in lent.entry) events result.complaint out.old out.new result.end }
 {
-    match look_at(record, array, charges, line, time, looking, out) {
+    match look_at(lent, line, time, looking, out) {
         Ok(end) => Seeing {
             course,
             complaint: None,
