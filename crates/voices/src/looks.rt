@@ -37,7 +37,7 @@ fn look_at_all(
     ensures { Looks line Looking.Whole time (record { bytes = «record».now; array = array.now; charges = charges.now }) result out.old out.new }
 {
     let legible = see_pages(record, array, charges, time)?;
-    let mut text = Text { out, at: 0 };
+    let mut text = Text::new(out);
     looked_whole(&mut text, line, legible);
     Ok(text.at)
 }
@@ -56,7 +56,7 @@ fn look_at_byte(
 {
     let value = see_byte(record, array, charges, address, time)?;
     let blank = see_blank(record, array, charges, address, time)?;
-    let mut text = Text { out, at: 0 };
+    let mut text = Text::new(out);
     looked_byte(&mut text, line, address as u64, value as u64, blank);
     Ok(text.at)
 }
@@ -75,7 +75,7 @@ fn look_at_cell(
     ensures { Looks line (Looking.Cell address bit) time (record { bytes = «record».now; array = array.now; charges = charges.now }) result out.old out.new }
 {
     let charge = see_charge(record, array, charges, address, bit, time)?;
-    let mut text = Text { out, at: 0 };
+    let mut text = Text::new(out);
     looked_cell(&mut text, line, address as u64, bit as u64, charge);
     Ok(text.at)
 }
