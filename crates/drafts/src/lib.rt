@@ -20,7 +20,7 @@ fn name_of(path: &[u8]) -> io::Result<&str> {
 
 // A draft's name, put into a slice. One that is cut off is as long as the slice, which no path is.
 fn name_beside<'a>(path: &[u8], room: &'a mut [u8]) -> io::Result<&'a str> {
-    let mut text = Text { out: room, at: 0 };
+    let mut text = Text::new(room);
     text.put_text(path);
     text.put_text(b".part");
     let end = text.at;

@@ -34,10 +34,7 @@ fn counted(bytes: &[u8]) -> Pixels {
 fn tell_bytes<R: Print>(rt: &R, bytes: &[u8]) {
     let pixels = counted(bytes);
     let mut room = [0u8; 128];
-    let mut text = Text {
-        out: &mut room,
-        at: 0,
-    };
+    let mut text = Text::new(&mut room);
     text.say(
         b"box.pgm: % bytes, % pixels not black, sum %\n",
         &[bytes.len() as u64, pixels.bright, pixels.sum],

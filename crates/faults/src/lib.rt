@@ -1,8 +1,8 @@
 // What the program says of a line of a history that it can't take, in words for a reader of the history. The contract says where the text
 // ends, and that it stays in the slice; the words themselves are the code's. What does not fit is cut off.
-#![tactic(auto, using(text::proofs::Joined::onward))]
+#![tactic(auto, using(text::proofs::Joined::some_text))]
 
-ghost use Rattle.text.specs.Says.{Goes};
+ghost use Rattle.text.specs.Says.{SaysSome};
 
 use missing_words::missing;
 use reason::Reason;
@@ -11,7 +11,7 @@ use wrong_words::wrong;
 
 // The sentence on a word, or on one that is missing, if the word is empty.
 fn sentence(text: &mut Text, word: &[u8], reason: Reason)
-    ensures { Goes text.old text.new }
+    ensures { SaysSome text.old text.new }
 {
     if word.is_empty() {
         missing(text, reason);
@@ -29,7 +29,7 @@ pub fn fault(
     reason: Reason,
     goes_on: bool,
 )
-    ensures { Goes text.old text.new }
+    ensures { SaysSome text.old text.new }
 {
     text.say(b"line %, column %: ", &[line_number, column]);
     sentence(text, word, reason);

@@ -1,7 +1,7 @@
 // What is missing where a line ends too early. Words are put as they are: nothing is filled in.
-#![tactic(auto, using(text::proofs::Joined::onward))]
+#![tactic(auto, using(text::proofs::Joined::some_text))]
 
-ghost use Rattle.text.specs.Says.{Goes};
+ghost use Rattle.text.specs.Says.{SaysSome};
 
 use reason::Reason;
 use text::Text;
@@ -38,7 +38,7 @@ fn sentence(reason: Reason) -> &'static [u8] {
 
 // Says what is missing, for any reason.
 pub fn missing(text: &mut Text, reason: Reason)
-    ensures { Goes text.old text.new }
+    ensures { SaysSome text.old text.new }
 {
     text.put_text(sentence(reason));
 }

@@ -1,12 +1,12 @@
 // The help of the program.
-ghost use Rattle.text.specs.Says.{Goes};
+ghost use Rattle.text.specs.Says.{SaysSome};
 
 use text::Text;
 
 // Puts the help: the usage, what each option does, what is printed, the exit status, and where the format of a history is described.
-#[tactic(auto, using(text::proofs::Joined::onward))]
+#[tactic(auto, using(text::proofs::Joined::some_text))]
 pub fn help(text: &mut Text)
-    ensures { Goes text.old text.new }
+    ensures { SaysSome text.old text.new }
 {
     text.put_text(
         b"usage: wipe [--image FILE | --restore FILE] [--block N | --from ADDR --to ADDR] [--at TIME]\n\

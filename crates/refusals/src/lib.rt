@@ -1,7 +1,7 @@
 // Refusals in document 01's own words. They are put as they are, since one of them has a mark of templates in it.
-#![tactic(auto, using(text::proofs::Joined::onward))]
+#![tactic(auto, using(text::proofs::Joined::some_text))]
 
-ghost use Rattle.text.specs.Says.{Goes};
+ghost use Rattle.text.specs.Says.{SaysSome};
 
 use refusal::Refusal;
 use text::Text;
@@ -34,7 +34,7 @@ fn words(why: Refusal) -> &'static [u8] {
 
 // A refusal after what was begun, to the line's end.
 fn ended(text: &mut Text, why: Refusal)
-    ensures { Goes text.old text.new }
+    ensures { SaysSome text.old text.new }
 {
     text.put_text(words(why));
     text.put_byte(b'\n');
@@ -42,7 +42,7 @@ fn ended(text: &mut Text, why: Refusal)
 
 // A call that is refused, with the number of its line.
 pub fn refusal(text: &mut Text, line_number: u64, why: Refusal)
-    ensures { Goes text.old text.new }
+    ensures { SaysSome text.old text.new }
 {
     let numbers = [line_number, u64::from(u32::from(why))];
     text.say(b"line %: the call is refused, %: ", &numbers);
@@ -51,7 +51,7 @@ pub fn refusal(text: &mut Text, line_number: u64, why: Refusal)
 
 // A file that is no snapshot.
 pub fn no_snapshot(text: &mut Text, word: &[u8], why: Refusal)
-    ensures { Goes text.old text.new }
+    ensures { SaysSome text.old text.new }
 {
     let numbers = [u64::from(u32::from(why))];
     text.fill(b"wipe: @ is no snapshot, refusal %: ", word, &numbers);
@@ -60,7 +60,7 @@ pub fn no_snapshot(text: &mut Text, word: &[u8], why: Refusal)
 
 // A look of the history that is refused, with the number of its line.
 pub fn look_refusal(text: &mut Text, line_number: u64, why: Refusal)
-    ensures { Goes text.old text.new }
+    ensures { SaysSome text.old text.new }
 {
     let numbers = [line_number, u64::from(u32::from(why))];
     text.say(b"line %: the look is refused, %: ", &numbers);
@@ -69,7 +69,7 @@ pub fn look_refusal(text: &mut Text, line_number: u64, why: Refusal)
 
 // A verdict's time at which no look is possible.
 pub fn unseen(text: &mut Text, why: Refusal)
-    ensures { Goes text.old text.new }
+    ensures { SaysSome text.old text.new }
 {
     let numbers = [u64::from(u32::from(why))];
     text.say(

@@ -73,7 +73,7 @@ fn made(
     ensures { Notes (made manner line (record { request = request; time = time })) course (record { done = next; last = Ok answer }) events.now out.old out.new result }
 {
     let counted = tallied(course.tally, events, answer.count);
-    let mut text = Text { out, at: 0 };
+    let mut text = Text::new(out);
     call_said(
         &mut text,
         manner.events,

@@ -102,7 +102,7 @@ pub fn report(
     let mut image = [0u8; FLASH_SIZE];
     image_at(&mut image, lent, time)?;
     let marks = marks_for(map, lent, time)?;
-    let mut text = Text { out, at: 0 };
+    let mut text = Text::new(out);
     summary(&mut text, counts, &image, map, &marks, judged);
     Ok(text.at)
 }

@@ -61,10 +61,7 @@ pub fn picture_drafted<R: Files, S: Print>(
     }
     see_shades(lent, time, buffer).map_err(|_| unwritten(says, path))?;
     let mut head = [0u8; HEAD];
-    let mut text = Text {
-        out: &mut head,
-        at: 0,
-    };
+    let mut text = Text::new(&mut head);
     picture_head(&mut text);
     drafted(rt, path, says, text.as_bytes(), first(buffer, CELLS))
 }

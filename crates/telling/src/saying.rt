@@ -15,10 +15,7 @@ pub(crate) fn say<S: Print, F: FnOnce(&mut Text)>(to: &S, put: F)
     requires { F.IsAlwaysCallable put }
 {
     let mut room = [0u8; ROOM];
-    let mut text = Text {
-        out: &mut room,
-        at: 0,
-    };
+    let mut text = Text::new(&mut room);
     put(&mut text);
     let _ = to.write_all(text.as_bytes());
 }

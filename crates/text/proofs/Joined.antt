@@ -13,7 +13,7 @@ use Rattle.std.proofs.lemmas.List.{take_min}
 use Rattle.std.proofs.lemmas.List.Edits.{sets-eq}
 use Rattle.text.specs.declared.Text.{Text}
 use Rattle.text.specs.Puts.{fitting, Ends, Puts}
-use Rattle.text.specs.Says.{Says, Goes}
+use Rattle.text.specs.Says.{Says, SaysSome}
 
 -- ---- runs of stores
 
@@ -130,17 +130,17 @@ says_append xs ys a b c p q = record {
   puts = puts-append xs ys a.at b.at c.at a.out.now b.out.now c.out.now p.puts q.puts;
 }
 
--- ---- a cursor that goes on
+-- ---- some text
 
-pub says_goes : (text : List ℕ) (a b : Text) → Says text a b → Goes a b
-says_goes text a b p = record {
+pub says_some : (text : List ℕ) (a b : Text) → Says text a b → SaysSome a b
+says_some text a b p = record {
   same = p.same;
   long = ap length p.puts.left_is ∙ length-sets a.out.now a.at (fitting a.out.now a.at text);
   ends = p.puts.ends;
 }
 
-pub goes_on : (a b c : Text) → Goes a b → Goes b c → Goes a c
-goes_on a b c p q = record {
+pub says_more : (a b c : Text) → SaysSome a b → SaysSome b c → SaysSome a c
+says_more a b c p q = record {
   same = q.same ∙ p.same;
   long = q.long ∙ p.long;
   ends = record {
@@ -149,5 +149,5 @@ goes_on a b c p q = record {
   };
 }
 
--- whatever is put, the cursor goes on
-pub ruleset onward = (says_goes, goes_on)
+-- whatever is put is some text, and so is one after the other
+pub ruleset some_text = (says_some, says_more)

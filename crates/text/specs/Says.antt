@@ -10,7 +10,7 @@ pub record Says (text : List ℕ) (old new : Text) : Type 0 where
   pub puts : Puts text old.at old.out.now new.out.now new.at
 
 -- Some text is put at a cursor's place: it holds the same slice then, and stands where a text may end.
-pub record Goes (old new : Text) : Type 0 where
+pub record SaysSome (old new : Text) : Type 0 where
   pub same : new.out.ghost_name ≡ old.out.ghost_name
   pub long : length new.out.now ≡ length old.out.now
   pub ends : Ends old.at old.out.now new.at

@@ -39,6 +39,15 @@ fn number_at(numbers: &[u64], i: usize) -> u64
     numbers.get(i).copied().unwrap_or(0)
 }
 
+impl<'a> Text<'a> {
+    // At a slice's start.
+    pub fn new(out: &'a mut [u8]) -> Text<'a>
+        ensures { result ≡ record { out = out.entry; at = 0 } }
+    {
+        Text { out, at: 0 }
+    }
+}
+
 impl Text<'_> {
     // What stands in the slice before the cursor's place.
     pub fn as_bytes(&self) -> &[u8]

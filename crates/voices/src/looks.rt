@@ -37,7 +37,7 @@ fn look_at_all(
     ensures { Looks line Looking.Whole time (memory_in lent.entry) result out.old out.new }
 {
     let legible = see_pages(lent, time)?;
-    let mut text = Text { out, at: 0 };
+    let mut text = Text::new(out);
     looked_whole(&mut text, line, legible);
     Ok(text.at)
 }
@@ -54,7 +54,7 @@ fn look_at_byte(
 {
     let value = see_byte(lent, address, time)?;
     let blank = see_blank(lent, address, time)?;
-    let mut text = Text { out, at: 0 };
+    let mut text = Text::new(out);
     looked_byte(&mut text, line, address as u64, value as u64, blank);
     Ok(text.at)
 }
@@ -71,7 +71,7 @@ fn look_at_cell(
     ensures { Looks line (Looking.Cell address bit) time (memory_in lent.entry) result out.old out.new }
 {
     let charge = see_charge(lent, address, bit, time)?;
-    let mut text = Text { out, at: 0 };
+    let mut text = Text::new(out);
     looked_cell(&mut text, line, address as u64, bit as u64, charge);
     Ok(text.at)
 }

@@ -47,10 +47,7 @@ fn collect<R: Env + Eprint>(rt: &R, args: &mut Text) -> Result<(), TooLong> {
 
 fn main(rt: HostRuntime) {
     let mut room = [0u8; ROOM];
-    let mut args = Text {
-        out: &mut room,
-        at: 0,
-    };
+    let mut args = Text::new(&mut room);
     if collect(&rt, &mut args).is_ok() {
         desk::work(&rt, args.as_bytes(), &rt.stderr());
     }

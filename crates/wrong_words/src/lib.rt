@@ -1,7 +1,7 @@
 // What is wrong with a word of a line.
-#![tactic(auto, using(text::proofs::Joined::onward))]
+#![tactic(auto, using(text::proofs::Joined::some_text))]
 
-ghost use Rattle.text.specs.Says.{Goes};
+ghost use Rattle.text.specs.Says.{SaysSome};
 
 use reason::Reason;
 use text::Text;
@@ -39,7 +39,7 @@ fn template(reason: Reason) -> &'static [u8] {
 
 // Says what is wrong with a word, for any reason.
 pub fn wrong(text: &mut Text, word: &[u8], reason: Reason)
-    ensures { Goes text.old text.new }
+    ensures { SaysSome text.old text.new }
 {
     text.say_word(template(reason), word);
 }
