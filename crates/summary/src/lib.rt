@@ -71,7 +71,12 @@ fn image_at(
 ) -> Result<(), Refusal>
     ensures { Shows (look_refusal false time (record { bytes = «record».now; array = array.now; charges = charges.now })) (image_at time (chip_in (record { bytes = «record».now; array = array.now; charges = charges.now }))) (told result) image.new }
 {
-    see_image(record, array, charges, time, image)
+    let lent = Lent {
+        record,
+        array,
+        charges,
+    };
+    see_image(lent, time, image)
 }
 
 // The marks of all pages at a time, where the map is asked for.

@@ -44,7 +44,12 @@ pub fn snapshot_drafted<R: Files, S: Print>(
     if path.is_empty() {
         return Ok(());
     }
-    let length = write_snapshot(record, array, charges, buffer).map_err(|_| unwritten(says, path))?;
+    let lent = Lent {
+        record,
+        array,
+        charges,
+    };
+    let length = write_snapshot(lent, buffer).map_err(|_| unwritten(says, path))?;
     drafted(rt, path, says, b"", first(buffer, length))
 }
 

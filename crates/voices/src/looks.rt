@@ -11,6 +11,7 @@ ghost use Rattle.std.specs.Prelude.{false};
 use answers::{looked_byte, looked_cell, looked_whole};
 use cell::{FLASH_SIZE, PAGES};
 use grammar::Looking;
+use lent::memory::Lent;
 use refusal::Refusal;
 use see::{see_blank, see_byte, see_charge, see_image};
 use time::Time;
@@ -21,7 +22,12 @@ fn see_pages(record: &[u8], array: &[u8], charges: &[u64], time: Time) -> Result
     ensures { Answers (look_refusal false time (record { bytes = «record».now; array = array.now; charges = charges.now })) (legible_in (image_at time (chip_in (record { bytes = «record».now; array = array.now; charges = charges.now }))) 0 pages) result }
 {
     let mut image = [0u8; FLASH_SIZE];
-    see_image(record, array, charges, time, &mut image)?;
+    let lent = Lent {
+        record,
+        array,
+        charges,
+    };
+    see_image(lent, time, &mut image)?;
     Ok(legible_pages(&image, 0, PAGES) as u64)
 }
 
@@ -51,8 +57,13 @@ fn look_at_byte(
 ) -> Result<usize, Refusal>
     ensures { Looks line (Looking.Byte address) time (record { bytes = «record».now; array = array.now; charges = charges.now }) result out.old out.new }
 {
-    let value = see_byte(record, array, charges, address, time)?;
-    let blank = see_blank(record, array, charges, address, time)?;
+    let lent = Lent {
+        record,
+        array,
+        charges,
+    };
+    let value = see_byte(lent, address, time)?;
+    let blank = see_blank(lent, address, time)?;
     Ok(looked_byte(out, 0, line, address as u64, value as u64, blank))
 }
 
@@ -69,7 +80,12 @@ fn look_at_cell(
 ) -> Result<usize, Refusal>
     ensures { Looks line (Looking.Cell address bit) time (record { bytes = «record».now; array = array.now; charges = charges.now }) result out.old out.new }
 {
-    let charge = see_charge(record, array, charges, address, bit, time)?;
+    let lent = Lent {
+        record,
+        array,
+        charges,
+    };
+    let charge = see_charge(lent, address, bit, time)?;
     Ok(looked_cell(out, 0, line, address as u64, bit as u64, charge))
 }
 

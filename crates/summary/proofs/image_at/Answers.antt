@@ -5,4 +5,4 @@ use Rattle.summary.proofs.Shown.{image-shows}
 use Rattle.summary.proofs.image_at.Goals as goal
 
 pub returns : goal.returns
-returns c = image-shows _ _ _ _ _ (search rules) c.see_image.ensures.0 c.see_image.ensures.1
+returns c = image-shows _ _ _ _ _ (search rules) c.see_image.ensures.refused c.see_image.ensures.left
