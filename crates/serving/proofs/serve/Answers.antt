@@ -1,4 +1,5 @@
 -- `serving::serve` meets its contract, by what a replay shows of the desk. Assumes nothing.
+use mathlib.Core.Path.{sym}
 use native.Mathlib.Omega.{arith}
 use Rattle.serving.proofs.Answered.{done-some, serves}
 use Rattle.serving.proofs.serve.Goals as goal
@@ -10,4 +11,6 @@ noted_at_once-requires c =
 
 pub returns : goal.returns
 returns c =
-    serves _ _ _ _ _ c.requires.0 c.requires.1 _ c.replay-answer.ensures.done _ _ _ c.requires.3 c.noted_at_once.ensures
+    let s = c.replay-answer.ensures.same in
+    rw (c.record-1.given.1.1 (sym s.same_record), c.array-1.given.1.1 (sym s.same_array), c.charges-1.given.1.1 (sym s.same_charges))
+    (serves _ _ _ _ _ c.requires.0 c.requires.1 _ c.replay-answer.ensures.done _ _ _ c.requires.3 c.noted_at_once.ensures)
