@@ -4,6 +4,7 @@
 
 ghost use Rattle.listing.specs.Replaying.{asks, Replays};
 
+use lent::memory::LentMut;
 use refusal::told;
 use replay::replay;
 
@@ -23,7 +24,12 @@ pub extern "C" fn flash_replay(
 ) -> u32
     ensures { Replays from (asks from to calls.now events.old (record { bytes = «record».old; array = array.old; charges = charges.old })) events.old (record { bytes = «record».old; array = array.old; charges = charges.old }) done.new result value.new count.new «record».new array.new charges.new events.new }
 {
-    let replayed = replay(record, array, charges, events, calls, from, to);
+    let mut memory = LentMut {
+        record,
+        array,
+        charges,
+    };
+    let replayed = replay(&mut memory, events, calls, from, to);
     let answer = replayed.last.unwrap_or_default();
     *done = replayed.done as u64;
     *value = answer.value;

@@ -8,6 +8,7 @@ ghost use Rattle.serving.specs.Serving.{Notes, Serves};
 
 use course::memory::NUMBERS;
 use course::{Complaint, Course, Manner, after_refusal, with_calls};
+use lent::memory::LentMut;
 use lent::{Answer, Request};
 use listing::{Replayed, request_in};
 use replay::replay;
@@ -159,6 +160,11 @@ pub fn serve(
     requires { (from < to) × (3 * to ≤ length calls.now) × (to ≤ length numbers.now) × (course.stopped ≡ false) }
     ensures { Serves manner calls.now numbers.now from to (desk course (record { bytes = «record».old; array = array.old; charges = charges.old }) events.old) (record { bytes = «record».new; array = array.new; charges = charges.new }) events.new out.old out.new result }
 {
-    let answer = replay(record, array, charges, events, calls, from, to);
+    let mut memory = LentMut {
+        record,
+        array,
+        charges,
+    };
+    let answer = replay(&mut memory, events, calls, from, to);
     noted_at_once(course, manner, events, calls, numbers, from, answer, out)
 }

@@ -4,6 +4,7 @@ use crate::reading::{open, read_full};
 use crate::saying::{say_image_length, say_no_snapshot, say_not_opened};
 use cell::FLASH_SIZE;
 use lent::making::make;
+use lent::memory::LentMut;
 use lent::opening::opened_record;
 use restore::read_snapshot;
 use slices::first;
@@ -69,7 +70,12 @@ fn begin_from_snapshot<R: Files, S: Print>(
 ) -> Result<(), Told> {
     let snapshot = load(rt, path, says, buffer)?;
     let last = Time(u64::MAX - 1, u64::MAX);
-    read_snapshot(snapshot, record, array, charges, last).map_err(|refusal| {
+    let mut memory = LentMut {
+        record,
+        array,
+        charges,
+    };
+    read_snapshot(snapshot, &mut memory, last).map_err(|refusal| {
         say_no_snapshot(says, path, refusal);
         Told
     })
