@@ -9,6 +9,7 @@ use cell::{CELLS, FLASH_SIZE};
 use course::memory::{Array, BUFFER, Buffer, Charges, EVENT_WORDS, Events, Record};
 use course::{Manner, begun};
 use layout::RECORD_LEN;
+use lent::memory::LentMut;
 use options::{Asked, Options, options_of};
 use session::read_history;
 use std::rt::Files;
@@ -53,31 +54,25 @@ fn serve<R: Files + Print + Eprint, S: Print>(
 ) -> Result<(), Told> {
     let image = given_in(args, options.image);
     let snapshot = given_in(args, options.restore);
-    begin(
-        rt,
-        image,
-        snapshot,
-        says,
-        &mut memory.record,
-        &mut memory.array,
-        &mut memory.charges,
-        &mut memory.buffer,
-    )?;
+    let mut lent = LentMut {
+        record: &mut memory.record,
+        array: &mut memory.array,
+        charges: &mut memory.charges,
+    };
+    begin(rt, image, snapshot, says, &mut lent, &mut memory.buffer)?;
     let manner = Manner {
         events: options.events,
         go_on: options.go_on,
     };
     let path = word_in(args, options.history);
-    let course = begun(last_settling(&memory.record));
+    let course = begun(last_settling(lent.record));
     let after = read_history(
         rt,
         path,
         says,
         manner,
         course,
-        &mut memory.record,
-        &mut memory.array,
-        &mut memory.charges,
+        &mut lent,
         &mut memory.events,
         &mut memory.buffer,
     )

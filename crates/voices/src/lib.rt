@@ -7,21 +7,13 @@ ghost use Rattle.course.specs.Desk.{desk, events_said, value_said, call_said, lo
 
 use crate::looks::look_at;
 use answers::answered;
-use course::{Complaint, Course, Manner, after_left_out};
+use course::{Complaint, Course, Manner, Noted, complained};
 use grammar::Looking;
 use lent::Request;
 use sayings::events::event;
 use time::Time;
 
 mod looks;
-
-// The course after a look, what is complained of, and where the text ends.
-#[derive(Clone, Copy)]
-pub struct Seeing {
-    pub course: Course,
-    pub complaint: Option<Complaint>,
-    pub end: usize,
-}
 
 // Each event with its time, from the start of a slice on.
 fn put_events(out: &mut [u8], time: Time, words: &[u64]) -> usize
@@ -89,19 +81,15 @@ pub fn look(
     time: Time,
     looking: Looking,
     out: &mut [u8],
-) -> Seeing
+) -> Noted
     ensures { (events : List ℕ) → Leaves (looked manner line looking time (looked_refusal looking time (record { bytes = «record».now; array = array.now; charges = charges.now })) (desk course (record { bytes = «record».now; array = array.now; charges = charges.now }) events)) result.course (record { bytes = «record».now; array = array.now; charges = charges.now }) events result.complaint out.old out.new result.end }
 {
     match look_at(record, array, charges, line, time, looking, out) {
-        Ok(end) => Seeing {
+        Ok(end) => Noted {
             course,
             complaint: None,
             end,
         },
-        Err(refusal) => Seeing {
-            course: after_left_out(course, manner.go_on),
-            complaint: Some(Complaint::Unseen(line, refusal)),
-            end: 0,
-        },
+        Err(refusal) => complained(course, manner.go_on, Complaint::Unseen(line, refusal)),
     }
 }

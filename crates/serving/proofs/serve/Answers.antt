@@ -5,9 +5,9 @@ use Rattle.serving.proofs.serve.Goals as goal
 
 pub noted_at_once-requires : goal.noted_at_once-requires
 noted_at_once-requires c =
-    let d = done-some _ _ c.args.calls.now _ _ c.requires.0 c.requires.1 _ c.replay-answer.ensures in
+    let d = done-some _ _ c.args.backlog.now.calls _ _ c.requires.0 (omega (arith, c.requires)) _ c.replay-answer.ensures in
     (d.0, omega (arith, d.1, c.requires), omega (arith, d.1, c.requires))
 
-pub returns : goal.returns
-returns c =
-    serves _ _ _ _ _ c.requires.0 c.requires.1 _ c.replay-answer.ensures _ _ _ c.requires.3 c.noted_at_once.ensures
+pub returns-clause-serves : goal.returns-clause-serves
+returns-clause-serves c =
+    serves _ _ _ _ _ c.requires.0 (omega (arith, c.requires)) _ c.replay-answer.ensures _ _ _ c.args.ongoing.goes_on c.noted_at_once.ensures
