@@ -1,9 +1,12 @@
 -- What a run counts. Assumes nothing.
-use Rattle.std.specs.Prelude.{ℕ, Bool, false, not, List, [], ◌∷◌}
+use Rattle.std.specs.Prelude.{ℕ, Bool, false, not, List, [], ◌∷◌, Some}
 use Rattle.time.specs.declared.Time.{Time}
 use Rattle.verdict.specs.declared.Tally.{Tally}
 use Rattle.verdict.specs.Pulses.{raised}
 use Rattle.course.specs.declared.Course.{Course}
+use Rattle.course.specs.declared.Complaint.{Complaint}
+use Rattle.course.specs.declared.Complaint.TheVariants.{Refused, Unseen, Wrong}
+use Rattle.course.specs.declared.Noted.{Noted}
 
 abbrev pub zeros : List ℕ
 zeros = 0 ∷ 0 ∷ 0 ∷ 0 ∷ 0 ∷ 0 ∷ []
@@ -51,3 +54,13 @@ after_left_out goOn c = record {
   last = c.last;
   stopped = not goOn;
 }
+
+-- the course after a complaint: a look is left out as a line is
+abbrev pub after_complaint : Bool → Complaint → Course → Course
+after_complaint goOn (Refused n r) c = after_refusal goOn c
+after_complaint goOn (Unseen n r) c = after_left_out goOn c
+after_complaint goOn (Wrong n f) c = after_left_out goOn c
+
+-- a complaint is all that is noted: nothing is said
+abbrev pub complained : Bool → Complaint → Course → Noted
+complained goOn complaint c = record { course = after_complaint goOn complaint c; complaint = Some complaint; end = 0 }

@@ -8,6 +8,7 @@ use Rattle.grammar.specs.declared.Line.TheVariants.{Wrong}
 use Rattle.grammar.specs.Grammar.{line_of}
 use Rattle.history.specs.History.{Asking, calls_of, time_after}
 use Rattle.verdict.specs.Pulses.{raised}
+use Rattle.course.specs.Bounds.{longest}
 use Rattle.course.specs.declared.Manner.{Manner}
 use Rattle.course.specs.declared.Place.{Place}
 use Rattle.course.specs.declared.Complaint.{Complaint}
@@ -28,10 +29,6 @@ read_after text cs r = record { desk = after_saying text cs r.desk; before = r.b
 -- a text's first byte, with some desk: there is no time that a `+` could count from
 abbrev pub starts_with : Desk → Reader
 starts_with d = record { desk = d; before = None; lines = 0; line = []; long = false }
-
--- the longest line
-abbrev pub longest : ℕ
-longest = 1000
 
 abbrev pub newline : ℕ
 newline = 10

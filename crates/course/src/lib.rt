@@ -1,9 +1,12 @@
 // The course of a run: what was counted, and how it changes when calls are made, when one is refused, and when a line is left out.
 #![tactic(auto)]
 
-ghost use Rattle.std.specs.Prelude.{◌≡◌};
+ghost use Rattle.std.specs.Prelude.{◌≡◌, ◌≤◌, ◌<◌, true, false, [], MatchOption};
+ghost use Rattle.grammar.specs.declared.Line.TheVariants.{Nothing};
+ghost use Rattle.history.specs.History.{calls_of};
 ghost use Rattle.verdict.specs.Pulses.{raised};
-ghost use Rattle.course.specs.Course.{with_calls, after_refusal, after_left_out, begun_at};
+ghost use Rattle.course.specs.Bounds.{longest, room};
+ghost use Rattle.course.specs.Course.{with_calls, complained, begun_at};
 
 use fields::Fault;
 use grammar::Line;
@@ -32,6 +35,14 @@ pub struct Course {
     pub stopped: bool,
 }
 
+// A course that has not ended early, and how the run is told.
+#[derive(Clone, Copy)]
+pub struct Ongoing {
+    pub course: Course,
+    pub manner: Manner,
+    pub ghost goes_on: { course.stopped ≡ false },
+}
+
 // What a run complains of, with the number of its line: a refused call, a refused look, a line that can't be taken.
 #[derive(Clone, Copy)]
 pub enum Complaint {
@@ -40,7 +51,15 @@ pub enum Complaint {
     Wrong(u64, Fault),
 }
 
-// Where a run stands in its text.
+// What a call, a look or a line came to: the course after it, what is complained of, and where the text that is said ends.
+#[derive(Clone, Copy)]
+pub struct Noted {
+    pub course: Course,
+    pub complaint: Option<Complaint>,
+    pub end: usize,
+}
+
+// Where a run stands in its text. No call is due, since calls wait. While none of them is run, another may wait and no line is due.
 #[derive(Clone, Copy)]
 pub struct Place {
     // The time that a `+` counts from, and how many lines were read.
@@ -58,6 +77,25 @@ pub struct Place {
     pub running: bool,
     // The next byte of the piece.
     pub at: usize,
+    pub ghost line_fits: { length ≤ longest },
+    pub ghost calls_fit: { waiting ≤ room },
+    pub ghost run_so_far: { next ≤ waiting },
+    pub ghost due_no_call: { calls_of due ≡ [] },
+    pub ghost has_room: { running ≡ false → waiting < room },
+    pub ghost none_run: { running ≡ false → next ≡ 0 },
+    pub ghost none_due: { running ≡ false → due ≡ Nothing },
+}
+
+impl Ongoing {
+    // A course that may have ended early.
+    pub fn of(course: Course, manner: Manner) -> Option<Ongoing>
+        ensures { MatchOption result (course.stopped ≡ true) (λ ongoing. (ongoing.course ≡ course) × (ongoing.manner ≡ manner)) }
+    {
+        if course.stopped {
+            return None;
+        }
+        Some(Ongoing { course, manner })
+    }
 }
 
 // Nothing is read yet, and the flash is as it was left at a time.
@@ -96,24 +134,21 @@ pub fn with_calls(course: Course, calls: u64, last: Time, tally: Tally) -> Cours
     }
 }
 
-// A call was refused: it changed nothing. Without --go-on it ends the run.
-pub fn after_refusal(course: Course, go_on: bool) -> Course
-    ensures { result ≡ after_refusal go_on course }
+// A call was refused and changed nothing, or a look or a line can't be taken. Without --go-on it ends the run.
+pub fn complained(course: Course, go_on: bool, complaint: Complaint) -> Noted
+    ensures { result ≡ complained go_on complaint course }
 {
-    Course {
-        refused: more(course.refused, 1),
-        stopped: !go_on,
-        ..course
+    let mut after = course;
+    match complaint {
+        Complaint::Refused(_, _) => after.refused = more(course.refused, 1),
+        Complaint::Unseen(_, _) | Complaint::Wrong(_, _) => {
+            after.left_out = more(course.left_out, 1)
+        }
     }
-}
-
-// A line or a look can't be taken. Without --go-on it ends the run.
-pub fn after_left_out(course: Course, go_on: bool) -> Course
-    ensures { result ≡ after_left_out go_on course }
-{
-    Course {
-        left_out: more(course.left_out, 1),
-        stopped: !go_on,
-        ..course
+    after.stopped = !go_on;
+    Noted {
+        course: after,
+        complaint: Some(complaint),
+        end: 0,
     }
 }

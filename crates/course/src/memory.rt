@@ -33,3 +33,11 @@ pub type Numbers = [u64; ROOM];
 
 // The bytes of a line.
 pub type Bytes = [u8; LONGEST];
+
+// What was read and is not yet done: the calls that wait, the numbers of their lines, and the bytes of the line that is not yet read whole.
+#[derive(Drop)]
+pub struct Backlog {
+    pub calls: Calls,
+    pub numbers: Numbers,
+    pub line: Bytes,
+}

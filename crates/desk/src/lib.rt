@@ -9,7 +9,7 @@ use cell::{CELLS, FLASH_SIZE};
 use course::memory::{Array, BUFFER, Buffer, Charges, EVENT_WORDS, Events, Record};
 use course::{Manner, begun};
 use layout::RECORD_LEN;
-use lent::memory::Lent;
+use lent::memory::{Lent, LentMut};
 use options::{Asked, Options, options_of};
 use session::read_history;
 use std::rt::Files;
@@ -58,30 +58,24 @@ fn serve<R: Files + Print + Eprint, S: Print>(
     // An empty path names no file either.
     let image = options.image.unwrap_or(&[]);
     let snapshot = options.restore.unwrap_or(&[]);
-    begin(
-        rt,
-        image,
-        snapshot,
-        says,
-        &mut memory.record,
-        &mut memory.array,
-        &mut memory.charges,
-        &mut memory.buffer,
-    )?;
+    let mut lent = LentMut {
+        record: &mut memory.record,
+        array: &mut memory.array,
+        charges: &mut memory.charges,
+    };
+    begin(rt, image, snapshot, says, &mut lent, &mut memory.buffer)?;
     let manner = Manner {
         events: options.events,
         go_on: options.go_on,
     };
-    let course = begun(last_settling(&memory.record));
+    let course = begun(last_settling(lent.record));
     let after = read_history(
         rt,
         options.history,
         says,
         manner,
         course,
-        &mut memory.record,
-        &mut memory.array,
-        &mut memory.charges,
+        &mut lent,
         &mut memory.events,
         &mut memory.buffer,
     )

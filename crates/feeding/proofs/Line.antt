@@ -15,10 +15,11 @@ use Rattle.std.specs.Prelude.{Some, None}
 use Rattle.std.specs.List.{position}
 use Rattle.std.proofs.lemmas.List.{take_all}
 use Rattle.text.specs.Puts.{fitting, Puts}
+use Rattle.course.specs.Bounds.{longest}
 use Rattle.course.specs.declared.Manner.{Manner}
 use Rattle.course.specs.declared.Place.{Place}
 use Rattle.course.specs.Desk.{Desk}
-use Rattle.course.specs.Reader.{longest, newline, line_ended, all_read, reader_at}
+use Rattle.course.specs.Reader.{newline, line_ended, all_read, reader_at}
 use Rattle.feeding.specs.Feeding.{between, line_end, fed_to, Feeds}
 use Rattle.feeding.proofs.Reading.{up_to, read-line, read-ended}
 
@@ -32,14 +33,14 @@ puts_first {text} {out} {left} {at} {end} put h =
 
 -- What was fed, where the line's bytes end at `end` in the piece and at `after` in its slice.
 module _ (p : Place) (piece line left : List ℕ) (end after : ℕ) (end_is : end ≡ line_end piece p.at)
-    (bound : end ≤ length piece) (some : p.at < length piece) (room : p.length ≤ longest) (whole : length line ≡ longest)
+    (bound : end ≤ length piece) (some : p.at < length piece) (room : p.length ≤ longest) (fits : after ≤ longest) (whole : length line ≡ longest)
     (put : Puts (between p.at end piece) p.length line left after) where
   abbrev rest : List ℕ
   rest = drop p.at piece
 
   -- the place as it is left, with the next byte of the piece
   abbrev pub placed : ℕ → Place
-  placed at = fed_to after (p.long || ltb (longest - p.length) (end - p.at)) at p
+  placed at = fed_to after fits (p.long || ltb (longest - p.length) (end - p.at)) at p
 
   bytes-are : between p.at end piece ≡ up_to rest
   bytes-are = let e : end - p.at ≡ index_of newline rest = omega (arith, end_is) in rw e
@@ -55,16 +56,12 @@ module _ (p : Place) (piece line left : List ℕ) (end after : ℕ) (end_is : en
   end_kept : (w : Manner) (d : Desk) (at : ℕ) → all_read w (between p.at (line_end piece p.at) piece) (reader_at d p line) ≡ reader_at d (placed at) left
   end_kept w d at = let e : line_end piece p.at - p.at ≡ index_of newline rest = omega arith in rw e (line_kept w d at)
 
-  after-fits : after ≤ longest
-  after-fits = omega (arith, put.ends.within)
-
   pub feeds-ended : end < length piece → Feeds p piece line left (record { place = placed (end + 1); ended = true })
   feeds-ended more = record {
     ended_is = sym (lt-ltb (line_end piece p.at) (length piece) (omega (arith, end_is)));
     at_is = omega (arith, end_is);
     onward = omega (arith, end_is);
     inside = omega arith;
-    fits = after-fits;
     others_are = refl;
     kept = λ w d. end_kept w d (end + 1);
     reads = λ w d. rw next (read-ended w rest (reader_at d p line) (omega (arith, end_is, length-drop p.at piece)) ∙ ap (line_ended w) (line_kept w d (end + 1)));
@@ -79,7 +76,6 @@ module _ (p : Place) (piece line left : List ℕ) (end after : ℕ) (end_is : en
     at_is = refl;
     onward = omega arith;
     inside = omega arith;
-    fits = after-fits;
     others_are = refl;
     kept = λ w d. end_kept w d (length piece);
     reads = λ w d. rw all (line_kept w d (length piece));
@@ -97,7 +93,7 @@ module _ (p q : Place) (piece line left : List ℕ) (some : p.at < length piece)
   ahead-all = take_all (length piece - p.at) (drop p.at piece) (omega (arith, length-drop p.at piece))
 
   pub ended-at : (k : ℕ) → Some k ≡ position (λ b. eqb b 10) ahead
-      → q ≡ fed_to q.length (p.long || ltb (longest - p.length) (length (take k ahead))) (p.at + k + 1) p
+      → q ≡ fed_to q.length q.line_fits (p.long || ltb (longest - p.length) (length (take k ahead))) (p.at + k + 1) p
       → Puts (take k ahead) p.length line left q.length → Feeds p piece line left (record { place = q; ended = true })
   ended-at k found is put =
       let f = here 10 ahead k found in
@@ -107,15 +103,15 @@ module _ (p q : Place) (piece line left : List ℕ) (some : p.at < length piece)
       let bytes : take k ahead ≡ between p.at (p.at + k) piece = rw (up, ahead-all) in
       let long : length (take k ahead) ≡ p.at + k - p.at = rw up (length-take-le k ahead (omega (arith, f.1))) in
       let end_is : p.at + k ≡ line_end piece p.at = omega arith in
-      let fed = feeds-ended p piece line left (p.at + k) q.length end_is (omega arith) some room whole (rw bytes at put) within in
+      let fed = feeds-ended p piece line left (p.at + k) q.length end_is (omega arith) some room q.line_fits whole (rw bytes at put) within in
       subst (λ (x : Place). Feeds p piece line left (record { place = x; ended = true })) (sym (rw long at is)) fed
 
   pub more-at : None ≡ position (λ b. eqb b 10) ahead
-      → q ≡ fed_to q.length (p.long || ltb (longest - p.length) (length ahead)) (length piece) p
+      → q ≡ fed_to q.length q.line_fits (p.long || ltb (longest - p.length) (length ahead)) (length piece) p
       → Puts ahead p.length line left q.length → Feeds p piece line left (record { place = q; ended = false })
   more-at found is put =
       let none : index_of newline (drop p.at piece) ≡ length (drop p.at piece) = rw ahead-all at (nowhere 10 ahead found) in
       let long : length ahead ≡ length piece - p.at = ap length ahead-all ∙ length-drop p.at piece in
       let end_is : length piece ≡ line_end piece p.at = omega (arith, none, length-drop p.at piece) in
-      let fed = feeds-more p piece line left (length piece) q.length end_is (omega arith) some room whole put (omega arith) in
+      let fed = feeds-more p piece line left (length piece) q.length end_is (omega arith) some room q.line_fits whole put (omega arith) in
       subst (λ (x : Place). Feeds p piece line left (record { place = x; ended = false })) (sym (rw long at is)) fed

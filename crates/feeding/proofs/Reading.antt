@@ -12,8 +12,9 @@ use lib.Seq.{take-nil, take-suc}
 use Rattle.byte_search.specs.Search.{index_of}
 use native.Mathlib.Numerals.{one-add}
 use Rattle.std.proofs.lemmas.List.Sums.{prefix_len_stops}
+use Rattle.course.specs.Bounds.{longest}
 use Rattle.course.specs.declared.Manner.{Manner}
-use Rattle.course.specs.Reader.{Reader, longest, newline, line_ended, byte_kept, all_read}
+use Rattle.course.specs.Reader.{Reader, newline, line_ended, byte_kept, all_read}
 use Rattle.course.proofs.Claimed.{runs}
 
 -- ---- bytes that are kept

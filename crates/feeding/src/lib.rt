@@ -1,9 +1,9 @@
 // The bytes of a piece are moved to the line, up to the line's end or the piece's.
 #![tactic(auto)]
 
-ghost use Rattle.std.specs.Prelude.{◌≡◌, ◌-◌, ◌≤◌, ◌<◌, ◌||◌, ltb, length};
+ghost use Rattle.std.specs.Prelude.{◌≡◌, ◌-◌, ◌<◌, ◌||◌, ltb, length};
 ghost use Rattle.text.specs.Puts.{Puts};
-ghost use Rattle.course.specs.Reader.{longest};
+ghost use Rattle.course.specs.Bounds.{longest};
 ghost use Rattle.feeding.specs.Feeding.{fed_to, Feeds};
 
 use byte_search::find;
@@ -20,8 +20,7 @@ pub struct Fed {
 
 // The bytes go behind those that the line has. What has no room there makes it too long; the next byte of the piece is given.
 fn put(place: Place, bytes: &[u8], line: &mut Bytes, next: usize) -> Place
-    requires { place.length ≤ longest }
-    ensures is { result ≡ fed_to result.length (place.long || ltb (longest - place.length) (length bytes.now)) next place }
+    ensures is { result ≡ fed_to result.length result.line_fits (place.long || ltb (longest - place.length) (length bytes.now)) next place }
     ensures put { Puts bytes.now place.length line.old line.new result.length }
 {
     let before = place.length;
@@ -39,8 +38,7 @@ fn put(place: Place, bytes: &[u8], line: &mut Bytes, next: usize) -> Place
 
 // The bytes go to the line up to its end, or up to the piece's.
 pub fn feed(place: Place, piece: &[u8], line: &mut Bytes) -> Fed
-    requires at_in_bounds { place.at < length piece.now }
-    requires length_le_longest { place.length ≤ longest }
+    requires { place.at < length piece.now }
     ensures { Feeds place piece.now line.old line.new result }
 {
     let at = place.at;

@@ -16,8 +16,8 @@ use Rattle.history.proofs.Kept.{end_is}
 use Rattle.listing.specs.declared.Replayed.{Replayed}
 use Rattle.course.specs.declared.Course.{Course}
 use Rattle.course.specs.declared.Manner.{Manner}
+use Rattle.course.specs.declared.Noted.{Noted}
 use Rattle.course.specs.Desk.{desk, called_all, numbered_from}
-use Rattle.serving.specs.declared.Served.{Served}
 use Rattle.serving.specs.Noting.{noted_at_once}
 use Rattle.serving.specs.Serving.{came_to, Notes, Serves}
 use Rattle.serving.proofs.Quiet.{noted-once}
@@ -33,13 +33,13 @@ module _ (from to : ℕ) (calls lent : List ℕ) (m : Memory) (more : from < to)
       (omega (arith, h.0, r.done_is), omega (arith, h.1, e, r.done_is))
 
   -- what the last of them came to
-  last-is : last_of (asks from to calls lent m) (idle lent m) ≡ came_to answer events (record { bytes = bytes; array = array; charges = charges })
+  last-is : last_of (asks from to calls lent m) (idle lent m) ≡ came_to answer.last events (record { bytes = bytes; array = array; charges = charges })
   last-is = told_is r.told r.value_is
 
   module _ (w : Manner) (numbers : List ℕ) (course : Course) (on : course.stopped ≡ false) where
     -- the desk after the calls done
     desk_is : called_all w (numbered_from (answer.done - from) from calls numbers) (desk course m lent)
-        ≡ noted_at_once w from (answer.done - 1) calls numbers (came_to answer events (record { bytes = bytes; array = array; charges = charges })) (desk course m lent)
+        ≡ noted_at_once w from (answer.done - 1) calls numbers (came_to answer.last events (record { bytes = bytes; array = array; charges = charges })) (desk course m lent)
     desk_is =
         let n : answer.done - from ≡ length (asks from to calls lent m) = omega (arith, r.done_is) in
         rw n
@@ -47,12 +47,12 @@ module _ (from to : ℕ) (calls lent : List ℕ) (m : Memory) (more : from < to)
         (omega (arith, done-some.0)) (omega (arith, done-some.0, r.done_is))
         ∙ ap (λ (o : Outcome). noted_at_once w from (answer.done - 1) calls numbers o (desk course m lent)) last-is)
 
-    pub serves : {out left : List ℕ} {s : Served}
-        → Notes (noted_at_once w from (answer.done - 1) calls numbers) course answer events out left s
-        → Serves w calls numbers from to (desk course m lent) (record { bytes = bytes; array = array; charges = charges }) events out left s
+    pub serves : {out left : List ℕ} {r : Noted}
+        → Notes (noted_at_once w from (answer.done - 1) calls numbers) course answer.last events out left r
+        → Serves w calls numbers from to (desk course m lent) (record { bytes = bytes; array = array; charges = charges }) events out left (record { noted = r; next = answer.done })
     serves n =
         record {
-          further = rw n.next_is done-some.0;
-          inside = rw n.next_is done-some.1;
-          leaves = rw (n.next_is, desk_is) (n.leaves (record { bytes = bytes; array = array; charges = charges }));
+          further = done-some.0;
+          inside = done-some.1;
+          leaves = rw desk_is (n (record { bytes = bytes; array = array; charges = charges }));
         }

@@ -1,29 +1,30 @@
 // Calls that wait are run, and what they came to is noted: counted, said or complained of.
 #![tactic(auto)]
 
-ghost use Rattle.std.specs.Prelude.{◌≡◌, false, ◌-◌, ◌*◌, ◌+◌, ◌≤◌, ◌<◌, Ok, length};
+ghost use Rattle.std.specs.Prelude.{◌≡◌, ◌-◌, ◌*◌, ◌+◌, ◌≤◌, ◌<◌, Ok, length};
+ghost use Rattle.lent.specs.Views.{memory_at, SameLent};
+ghost use Rattle.course.specs.Bounds.{room};
 ghost use Rattle.course.specs.Desk.{desk, made, noted};
 ghost use Rattle.serving.specs.Noting.{asking_at, passed, noted_at_once};
 ghost use Rattle.serving.specs.Serving.{Notes, Serves};
 
-use course::memory::NUMBERS;
-use course::{Complaint, Course, Manner, after_refusal, with_calls};
+use course::memory::{Backlog, NUMBERS};
+use course::{Complaint, Course, Manner, Noted, Ongoing, complained, with_calls};
 use lent::memory::LentMut;
 use lent::{Answer, Request};
 use listing::{Replayed, request_in};
+use refusal::Refusal;
 use replay::replay;
 use text::Text;
 use time::Time;
 use verdict::pulses::tallied;
 use voices::call_said;
 
-// The course after some calls, the first call that is not done, what is complained of, and where the text that is said ends.
+// What some calls came to, and the first call that is not done.
 #[derive(Clone, Copy)]
 pub struct Served {
-    pub course: Course,
+    pub noted: Noted,
     pub next: usize,
-    pub complaint: Option<Complaint>,
-    pub end: usize,
 }
 
 // What the i-th call asks for, and when.
@@ -59,7 +60,7 @@ fn passed(course: Course, calls: &[u64], from: usize, to: usize) -> Course
     )
 }
 
-// A call was made, and `next` is the first that is not done.
+// A call was made.
 fn made(
     course: Course,
     manner: Manner,
@@ -67,11 +68,10 @@ fn made(
     request: Request,
     time: Time,
     events: &[u64],
-    next: usize,
     answer: Answer,
     out: &mut [u8],
-) -> Served
-    ensures { Notes (made manner line (record { request = request; time = time })) course (record { done = next; last = Ok answer }) events.now out.old out.new result }
+) -> Noted
+    ensures { Notes (made manner line (record { request = request; time = time })) course (Ok answer) events.now out.old out.new result }
 {
     let counted = tallied(course.tally, events, answer.count);
     let mut text = Text::new(out);
@@ -85,9 +85,8 @@ fn made(
         answer.count,
         answer.value,
     );
-    Served {
+    Noted {
         course: with_calls(course, 1, time, counted),
-        next,
         complaint: None,
         end: text.at,
     }
@@ -101,22 +100,14 @@ fn noted(
     request: Request,
     time: Time,
     events: &[u64],
-    answer: Replayed,
+    answer: Result<Answer, Refusal>,
     out: &mut [u8],
-) -> Served
+) -> Noted
     ensures { Notes (noted manner line (record { request = request; time = time })) course answer events.now out.old out.new result }
 {
-    let next = answer.done;
-    match answer.last {
-        Ok(answer) => made(
-            course, manner, line, request, time, events, next, answer, out,
-        ),
-        Err(refusal) => Served {
-            course: after_refusal(course, manner.go_on),
-            next,
-            complaint: Some(Complaint::Refused(line, refusal)),
-            end: 0,
-        },
+    match answer {
+        Ok(answer) => made(course, manner, line, request, time, events, answer, out),
+        Err(refusal) => complained(course, manner.go_on, Complaint::Refused(line, refusal)),
     }
 }
 
@@ -130,9 +121,9 @@ fn noted_at_once(
     from: usize,
     answer: Replayed,
     out: &mut [u8],
-) -> Served
+) -> Noted
     requires { (from < answer.done) × (3 * answer.done ≤ length calls.now) × (answer.done ≤ length numbers.now) }
-    ensures { Notes (noted_at_once manner from (answer.done - 1) calls.now numbers.now) course answer events.now out.old out.new result }
+    ensures { Notes (noted_at_once manner from (answer.done - 1) calls.now numbers.now) course answer.last events.now out.old out.new result }
 {
     let next = answer.done;
     let last = next - 1;
@@ -140,31 +131,46 @@ fn noted_at_once(
     let request = request_at(calls, last);
     let time = time_at(calls, last);
     let line = numbers[last];
-    noted(before, manner, line, request, time, events, answer, out)
+    noted(
+        before,
+        manner,
+        line,
+        request,
+        time,
+        events,
+        answer.last,
+        out,
+    )
 }
 
 // Runs the calls that wait from one on, up to the first that has something to say, and at most up to another.
 pub fn serve(
-    course: Course,
-    manner: Manner,
-    record: &mut [u8],
-    array: &mut [u8],
-    charges: &mut [u64],
+    ongoing: Ongoing,
+    memory: &mut LentMut,
     events: &mut [u64],
-    calls: &[u64],
-    numbers: &[u64],
+    backlog: &Backlog,
     from: usize,
     to: usize,
     out: &mut [u8],
 ) -> Served
-    requires { (from < to) × (3 * to ≤ length calls.now) × (to ≤ length numbers.now) × (course.stopped ≡ false) }
-    ensures { Serves manner calls.now numbers.now from to (desk course (record { bytes = «record».old; array = array.old; charges = charges.old }) events.old) (record { bytes = «record».new; array = array.new; charges = charges.new }) events.new out.old out.new result }
+    requires { (from < to) × (to ≤ room) }
+    ensures same_lent { SameLent memory.old memory.new }
+    ensures serves { Serves ongoing.manner backlog.now.calls backlog.now.numbers from to (desk ongoing.course (memory_at memory.old) events.old) (memory_at memory.new) events.new out.old out.new result }
 {
-    let mut memory = LentMut {
-        record,
-        array,
-        charges,
-    };
-    let answer = replay(&mut memory, events, calls, from, to);
-    noted_at_once(course, manner, events, calls, numbers, from, answer, out)
+    let calls: &[u64] = &backlog.calls;
+    let numbers: &[u64] = &backlog.numbers;
+    let answer = replay(memory, events, calls, from, to);
+    Served {
+        noted: noted_at_once(
+            ongoing.course,
+            ongoing.manner,
+            events,
+            calls,
+            numbers,
+            from,
+            answer,
+            out,
+        ),
+        next: answer.done,
+    }
 }

@@ -12,14 +12,19 @@ use Rattle.std.specs.Prelude.{Option, None, Some, IfSome, option_to_list}
 use Rattle.course.specs.declared.Complaint.{Complaint}
 use Rattle.course.specs.declared.Course.{Course}
 use Rattle.course.specs.declared.Manner.{Manner}
+use Rattle.course.specs.declared.Noted.{Noted}
 use Rattle.course.specs.declared.Place.{Place}
+use Rattle.course.specs.declared.memory.Backlog.{Backlog}
 use Rattle.course.specs.Desk.{Desk, desk, called_all, numbered_from}
-use Rattle.course.specs.Reader.{Reader, read_after, line_ended, all_read, last_read, desk_at}
+use Rattle.course.specs.Reader.{Reader, read_after, starts_with, line_ended, all_read, last_read, desk_at}
 use Rattle.course.proofs.Claimed.{runs}
 use Rattle.feeding.specs.Feeding.{between}
-use Rattle.steps.specs.Stepping.{Steps, Closes}
-use Rattle.session.specs.declared.Run.{Run}
-use Rattle.session.specs.Going.{piece_bytes, Standing, read_on, Goes, reader_in, ReadWhole, beginning_with, with_piece, with_failure, Moves, CanStep}
+use Rattle.steps.specs.Stepping.{Steps, Closes, reader_of}
+use Rattle.steps.proofs.Lines.{place-sound}
+use Rattle.lent.specs.declared.memory.LentMut.{LentMut}
+use Rattle.lent.specs.Views.{SameLent}
+use Rattle.session.specs.declared.run.Run.{Run}
+use Rattle.session.specs.Going.{Standing, read_on, Goes, reader_in, ReadWhole, Begins, WithPiece, with_failure, Moves, CanStep}
 
 -- ---- one after the other
 
@@ -68,32 +73,29 @@ goes_on w more more' more'' r r' r'' g h = record {
 
 -- ---- a step
 
--- the run after a step
-abbrev pub after_step : Run → Course → Place → Run
-after_step r c p = record { course = c; place = p; have = r.have; more = r.more; failed = r.failed }
-
 running-then : (running : Bool) → (running ≡ false → ⊥) → running ≡ true
 running-then true h = refl
 running-then false h = absurd (h refl)
 
-module _ (w : Manner) (r : Run) (piece : List ℕ) (piece-long : length (take r.have piece) ≡ r.have) (s : Standing r) where
-  module _ {calls numbers line : List ℕ} {m : Memory} {events : List ℕ} {c : Course} {p : Place} {calls' numbers' line' : List ℕ} {m' : Memory} {events' : List ℕ} {complaint : Option Complaint} {out left : List ℕ} {end : ℕ}
-      (k : Steps w r.place calls numbers line (take r.have piece) (desk r.course m events) p calls' numbers' line' c m' events' complaint out left end) where
-    step-stands : (r.place.running ≡ false → r.place.at < r.have) → Standing (after_step r c p)
-    step-stands bytes_left = record {
-      sound = k.sound;
-      inside = let h = k.inside in omega (arith, piece-long);
-      fits = s.fits;
-      passed = λ e. let a = s.passed e in let b = k.onward in let d = k.inside in omega (arith, piece-long);
-      none_left = λ e h. k.none_left (running-then r.place.running (λ i. let a = s.passed e in let b = bytes_left i in omega arith)) h;
-    }
+module _ (w : Manner) (r : Run) (piece : List ℕ) (piece-long : length (take r.have piece) ≡ r.have) where
+  module _ {b : Backlog} {c : Course} {m : Memory} {events : List ℕ} {p : Place} {b' : Backlog} {noted : Noted} {m' : Memory} {events' out left : List ℕ}
+      (k : Steps w r.place b (take r.have piece) (desk c m events) p b' noted m' events' out left) where
+    -- the run after it is one again
+    pub step-inside : p.at ≤ r.have
+    step-inside = let h = k.inside in omega (arith, piece-long)
 
-    step-goes : Goes w r.more r.more (reader_in w r calls numbers line m events) (reader_in w (after_step r c p) calls' numbers' line' m' events')
+    pub step-passed : r.more ≡ false → p.at ≡ r.have
+    step-passed e = let a = r.passed e in let b = k.onward in let d = k.inside in omega (arith, piece-long)
+
+    pub step-none-left : (r.place.running ≡ false → r.place.at < r.have) → r.more ≡ false → p.running ≡ false → p.waiting ≡ 0
+    step-none-left bytes_left e h = k.none_left (running-then r.place.running (λ i. let a = r.passed e in let b = bytes_left i in omega arith)) h
+
+    pub step-goes : Goes w r.more r.more (reader_of w r.place b (desk c m events)) (reader_of w p b' (desk noted.course m' events'))
     unfolding all_read
     step-goes = record {
       bytes = passed;
       said = k.text;
-      complaints = option_to_list complaint;
+      complaints = option_to_list noted.complaint;
       read = by r.more refl;
       once = λ e. e;
     }
@@ -101,93 +103,60 @@ module _ (w : Manner) (r : Run) (piece : List ℕ) (piece-long : length (take r.
         passed : List ℕ
         passed = between r.place.at p.at (take r.have piece)
 
-        by : (b : Bool) → r.more ≡ b → read_on b b w passed (reader_in w r calls numbers line m events) ≡ read_after k.text (option_to_list complaint) (reader_in w (after_step r c p) calls' numbers' line' m' events')
+        by : (t : Bool) → r.more ≡ t → read_on t t w passed (reader_of w r.place b (desk c m events)) ≡ read_after k.text (option_to_list noted.complaint) (reader_of w p b' (desk noted.course m' events'))
         by true e = k.read
         by false e =
-            let none : p.at - r.place.at ≡ 0 = let a = s.passed e in let d = k.inside in omega (arith, piece-long) in
+            let none : p.at - r.place.at ≡ 0 = let a = r.passed e in let d = k.inside in omega (arith, piece-long) in
             rw none at k.read
 
-    pub stepped : (r.place.running ≡ false → r.place.at < r.have)
-        → Standing (after_step r c p) × Goes w r.more r.more (reader_in w r calls numbers line m events) (reader_in w (after_step r c p) calls' numbers' line' m' events')
-    stepped bytes_left = (step-stands bytes_left, step-goes)
+pub ruleset still_inside = (step-inside, step-passed, step-none-left)
 
 -- ---- the end of the file
 
-abbrev pub after_close : Run → Place → Run
-after_close r p = record { course = r.course; place = p; have = r.have; more = false; failed = r.failed }
-
-module _ (r : Run) (p : Place) {calls numbers line calls' numbers' : List ℕ} (s : Standing r) (more : r.more ≡ true) (all : r.have ≤ r.place.at)
-    (k : Closes r.place calls numbers line p calls' numbers') where
-  close-stands : Standing (after_close r p)
-  close-stands = record {
-    sound = k.sound;
-    inside = let e = k.same_byte in let h = s.inside in omega arith;
-    fits = s.fits;
-    passed = λ e. let h = s.inside in k.same_byte ∙ omega arith;
-    none_left = λ e h. absurd (true≢false (sym k.runs ∙ h));
-  }
-
-  pub closes : Moves r calls numbers line (after_close r p) calls' numbers'
-  unfolding all_read
-  closes = record {
-    stands = close-stands;
-    goes = λ w m events. record {
-      bytes = [];
-      said = [];
-      complaints = [];
-      read = rw more (k.read w (desk r.course m events));
-      once = λ e. refl;
-    };
-  }
+pub closes : (r r' : Run) {b b' : Backlog} → r'.course ≡ r.course → r'.more ≡ false → r.more ≡ true → Closes r.place b r'.place b' → Moves r b r' b'
+unfolding all_read
+closes r r' course_is over more k = record {
+  goes = λ w m events. record {
+    bytes = [];
+    said = [];
+    complaints = [];
+    read = rw (more, over, course_is) (k.read w (desk r.course m events));
+    once = λ e. over;
+  };
+}
 
 -- ---- pieces
 
-pub new-piece : (r : Run) (have : ℕ) (calls numbers line : List ℕ) → Standing r → r.more ≡ true → r.place.running ≡ false → have ≤ piece_bytes
-    → Moves r calls numbers line (with_piece have r) calls numbers
-new-piece r have calls numbers line s more reading fits = record {
-  stands = record {
-    sound = record {
-      line_fits = s.sound.line_fits;
-      calls_fit = s.sound.calls_fit;
-      run_so_far = s.sound.run_so_far;
-      due_no_call = s.sound.due_no_call;
-      reads_on = λ h. let k = s.sound.reads_on reading in record { fits = k.fits; has_room = k.has_room; none_run = k.none_run; none_due = k.none_due };
-    };
-    inside = omega arith;
-    fits = fits;
-    passed = λ e. absurd (true≢false (sym more ∙ e));
-    none_left = λ e h. absurd (true≢false (sym more ∙ e));
-  };
-  goes = λ w m events. goes-nowhere w r.more (reader_in w r calls numbers line m events);
+pub new-piece : {have : ℕ} {r r' : Run} → WithPiece have r r' → (b : Backlog) → Moves r b r' b
+new-piece {have} {r} {r'} k b = record {
+  goes = λ w m events.
+      rw (k.course_is, k.before_is, k.lines_are, k.length_is, k.long_is, k.calls_wait, k.next_is, k.due_is, k.more_is)
+      (goes-nowhere w r.more (reader_in w r b m events));
 }
 
-pub no-piece : (r : Run) (calls numbers line : List ℕ) → Standing r → Moves r calls numbers line (with_failure r) calls numbers
-no-piece r calls numbers line s = record {
-  stands = record { sound = s.sound; inside = s.inside; fits = s.fits; passed = s.passed; none_left = s.none_left };
-  goes = λ w m events. goes-nowhere w r.more (reader_in w r calls numbers line m events);
-}
+pub no-piece : (r : Run) (b : Backlog) → Moves r b (with_failure r) b
+no-piece r b = record { goes = λ w m events. goes-nowhere w r.more (reader_in w r b m events) }
 
 -- ---- turns
 
 pub running-steps : (r : Run) → r.place.running ≡ true → CanStep r true
 running-steps r h = record { can = λ e reads. absurd (true≢false (sym h ∙ reads)); stays = λ e. absurd (true≢false e) }
 
--- ---- the whole file
+pub same-lent : (m : LentMut) → SameLent m m
+same-lent m = record { same_record = refl; same_array = refl; same_charges = refl }
 
-pub begins : (c : Course) → Standing (beginning_with c)
-begins c = record {
-  sound = record {
-    line_fits = omega arith;
-    calls_fit = omega arith;
-    run_so_far = omega arith;
-    due_no_call = refl;
-    reads_on = λ h. record { fits = omega arith; has_room = omega arith; none_run = refl; none_due = refl };
-  };
-  inside = omega arith;
-  fits = omega arith;
-  passed = λ e. refl;
-  none_left = λ e h. refl;
+pub still-lent : {m m' m'' : LentMut} → SameLent m m' → SameLent m' m'' → SameLent m m''
+still-lent h k = record {
+  same_record = k.same_record ∙ h.same_record;
+  same_array = k.same_array ∙ h.same_array;
+  same_charges = k.same_charges ∙ h.same_charges;
 }
+
+-- what a run keeps is what the definition asks of it
+pub run-stands : (r : Run) → Standing r
+run-stands r = record { sound = place-sound r.place; inside = r.inside; fits = r.fits; passed = r.passed; none_left = r.none_left }
+
+-- ---- the whole file
 
 -- a desk at a place where nothing waits and nothing is due
 nothing-waits : (w : Manner) (p : Place) (calls numbers : List ℕ) (d : Desk) → p.waiting ≡ 0 → p.due ≡ line.Nothing → desk_at w p calls numbers d ≡ d
@@ -196,22 +165,22 @@ nothing-waits w p calls numbers d none due =
     let z : p.waiting - p.next ≡ 0 = omega arith in
     rw (due, z)
 
-read_whole : (w : Manner) (c : Course) (r : Run) (calls numbers line calls' numbers' line' : List ℕ) (m m' : Memory) (events events' : List ℕ) → Standing r
-    → Goes w true r.more (reader_in w (beginning_with c) calls numbers line m events) (reader_in w r calls' numbers' line' m' events')
+read_whole : (w : Manner) (c : Course) (first r : Run) (b b' : Backlog) (m m' : Memory) (events events' : List ℕ) → Begins c first
+    → Goes w first.more r.more (reader_in w first b m events) (reader_in w r b' m' events')
     → r.course.stopped ≡ false → r.more ≡ false → r.place.running ≡ false → ReadWhole w (desk c m events) r.course m' events'
 unfolding called_all numbered_from
-read_whole w c r calls numbers line calls' numbers' line' m m' events events' s g on more reading =
-    let due = (s.sound.reads_on reading).none_due in
-    let none = s.none_left more reading in
-    let end = nothing-waits w r.place calls' numbers' (desk r.course m' events') none due in
-    let read = rw more at g.read in
+read_whole w c first r b b' m m' events events' s g on more reading =
+    let end = nothing-waits w r.place b'.calls b'.numbers (desk r.course m' events') (r.none_left more reading) (r.place.none_due reading) in
+    let from-start : read_on first.more r.more w g.bytes (starts_with (desk c m events)) ≡ read_after g.said g.complaints (reader_in w r b' m' events') =
+        ap (read_on first.more r.more w g.bytes) (sym (s.starts w b m events)) ∙ g.read in
+    let read = rw (s.more_to_come, more) at from-start in
     record { text = g.bytes; said = g.said; complaints = g.complaints; not_stopped = on; desk_is = ap (λ (x : Reader). x.desk) read ∙ rw end }
 
 -- and so where the course is given only then
-pub read_if_whole : (after : Option Course) (w : Manner) (c : Course) (r : Run) (calls numbers line calls' numbers' line' : List ℕ) (m m' : Memory) (events events' : List ℕ)
-    → Standing r → Goes w true r.more (reader_in w (beginning_with c) calls numbers line m events) (reader_in w r calls' numbers' line' m' events')
+pub read_if_whole : (after : Option Course) (w : Manner) (c : Course) (first r : Run) (b b' : Backlog) (m m' : Memory) (events events' : List ℕ)
+    → Begins c first → Goes w first.more r.more (reader_in w first b m events) (reader_in w r b' m' events')
     → IfSome after (λ x. (x ≡ r.course) × (r.course.stopped ≡ false) × (r.more ≡ false) × (r.place.running ≡ false))
     → IfSome after (λ x. ReadWhole w (desk c m events) x m' events')
-read_if_whole None w c r calls numbers line calls' numbers' line' m m' events events' s g h = tt
-read_if_whole (Some x) w c r calls numbers line calls' numbers' line' m m' events events' s g h =
-    rw h.0 (read_whole w c r calls numbers line calls' numbers' line' m m' events events' s g h.1 h.2 h.3)
+read_if_whole None w c first r b b' m m' events events' s g h = tt
+read_if_whole (Some x) w c first r b b' m m' events events' s g h =
+    rw h.0 (read_whole w c first r b b' m m' events events' s g h.1 h.2 h.3)

@@ -1,21 +1,18 @@
 -- A run of the program over a file: whatever bytes the system gave, in whatever pieces, the desk comes to what the definition of a run says
 -- of them. Assumes nothing.
-use Rattle.std.specs.Prelude.{ℕ, ◌≤◌, ◌<◌, ◌≡◌, Bool, true, false, List, None}
+use Rattle.std.specs.Prelude.{ℕ, ◌≤◌, ◌<◌, ◌≡◌, Bool, true, false, List}
 use Rattle.lent.specs.Memory.{Memory}
-use Rattle.grammar.specs.declared.Line.TheVariants as line
 use Rattle.course.specs.declared.Complaint.{Complaint}
 use Rattle.course.specs.declared.Course.{Course}
 use Rattle.course.specs.declared.Manner.{Manner}
+use Rattle.course.specs.declared.memory.Backlog.{Backlog}
 use Rattle.course.specs.Desk.{Desk, desk, after_saying}
 use Rattle.course.specs.Reader.{Reader, read_after, starts_with, all_read, text_read}
 use Rattle.steps.specs.Stepping.{Sound, reader_of}
-use Rattle.session.specs.declared.Run.{Run}
+use Rattle.session.specs.Pieces.{piece_bytes}
+use Rattle.session.specs.declared.run.Run.{Run}
 
--- the size of a piece
-abbrev pub piece_bytes : ℕ
-piece_bytes = 65536
-
--- A run between two steps.
+-- A run between two steps: every run stands so.
 pub record Standing (r : Run) : Type 0 where
   pub sound : Sound r.place
   pub inside : r.place.at ≤ r.have
@@ -39,8 +36,8 @@ pub record Goes (w : Manner) (more more' : Bool) (r r' : Reader) : Type 0 where
   pub once : more ≡ false → more' ≡ false
 
 -- the reader of a run, in its memory
-abbrev pub reader_in : Manner → Run → List ℕ → List ℕ → List ℕ → Memory → List ℕ → Reader
-reader_in w r calls numbers line m events = reader_of w r.place calls numbers line (desk r.course m events)
+abbrev pub reader_in : Manner → Run → Backlog → Memory → List ℕ → Reader
+reader_in w r b m events = reader_of w r.place b (desk r.course m events)
 
 -- A file was read whole: its text left this course, memory and event words.
 pub record ReadWhole (w : Manner) (before : Desk) (c : Course) (m : Memory) (events : List ℕ) : Type 0 where
@@ -50,45 +47,36 @@ pub record ReadWhole (w : Manner) (before : Desk) (c : Course) (m : Memory) (eve
   pub not_stopped : c.stopped ≡ false
   pub desk_is : (text_read w text (starts_with before)).desk ≡ after_saying said complaints (desk c m events)
 
--- a run before its first byte
-abbrev pub beginning_with : Course → Run
-beginning_with c = record {
-  course = c;
-  place = record { before = None; lines = 0; length = 0; long = false; waiting = 0; next = 0; due = line.Nothing; running = false; at = 0 };
-  have = 0;
-  more = true;
-  failed = false;
-}
+-- A run before its first byte: whatever is in its memory, it begins with its desk.
+pub record Begins (c : Course) (r : Run) : Type 0 where
+  pub have_none : r.have ≡ 0
+  pub more_to_come : r.more ≡ true
+  pub not_failed : r.failed ≡ false
+  pub starts : (w : Manner) (b : Backlog) (m : Memory) (events : List ℕ) → reader_in w r b m events ≡ starts_with (desk c m events)
 
--- a new piece of so many bytes
-abbrev pub with_piece : ℕ → Run → Run
-with_piece have r = record {
-  course = r.course;
-  place = record {
-    before = r.place.before;
-    lines = r.place.lines;
-    length = r.place.length;
-    long = r.place.long;
-    waiting = r.place.waiting;
-    next = r.place.next;
-    due = r.place.due;
-    running = r.place.running;
-    at = 0;
-  };
-  have = have;
-  more = r.more;
-  failed = r.failed;
-}
+-- r' is a run with a new piece of so many bytes.
+pub record WithPiece (have : ℕ) (r r' : Run) : Type 0 where
+  pub course_is : r'.course ≡ r.course
+  pub before_is : r'.place.before ≡ r.place.before
+  pub lines_are : r'.place.lines ≡ r.place.lines
+  pub length_is : r'.place.length ≡ r.place.length
+  pub long_is : r'.place.long ≡ r.place.long
+  pub calls_wait : r'.place.waiting ≡ r.place.waiting
+  pub next_is : r'.place.next ≡ r.place.next
+  pub due_is : r'.place.due ≡ r.place.due
+  pub running_is : r'.place.running ≡ r.place.running
+  pub at_is : r'.place.at ≡ 0
+  pub have_is : r'.have ≡ have
+  pub more_is : r'.more ≡ r.more
+  pub failed_is : r'.failed ≡ r.failed
 
 -- the file could not be read
 abbrev pub with_failure : Run → Run
-with_failure r = record { course = r.course; place = r.place; have = r.have; more = r.more; failed = true }
+with_failure r = record r { failed = true }
 
 -- Nothing but the text was touched, so that whatever the flash is, the run goes on from one place to another.
-pub record Moves (r : Run) (calls numbers line : List ℕ) (r' : Run) (calls' numbers' : List ℕ) : Type 0 where
-  pub stands : Standing r'
-  pub goes : (w : Manner) (m : Memory) (events : List ℕ)
-      → Goes w r.more r'.more (reader_in w r calls numbers line m events) (reader_in w r' calls' numbers' line m events)
+pub record Moves (r : Run) (b : Backlog) (r' : Run) (b' : Backlog) : Type 0 where
+  pub goes : (w : Manner) (m : Memory) (events : List ℕ) → Goes w r.more r'.more (reader_in w r b m events) (reader_in w r' b' m events)
 
 -- whether a step can be taken, by an answer
 pub record CanStep (r : Run) (answer : Bool) : Type 0 where

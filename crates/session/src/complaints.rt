@@ -1,5 +1,5 @@
 // What a step of a run said is written, and what it complained of is put into words.
-use course::Complaint;
+use course::{Complaint, Noted};
 use slices::{first, part};
 use telling::saying::{say_fault, say_look_refused, say_refusal};
 
@@ -20,14 +20,13 @@ pub fn tell<R: Print, S: Print>(
     says: &S,
     go_on: bool,
     out: &[u8],
-    end: usize,
+    noted: Noted,
     line: &[u8],
-    complaint: Option<Complaint>,
 ) {
-    if 0 < end {
-        let _ = rt.write_all(first(out, end));
+    if 0 < noted.end {
+        let _ = rt.write_all(first(out, noted.end));
     }
-    if let Some(complaint) = complaint {
+    if let Some(complaint) = noted.complaint {
         complain(says, go_on, line, complaint);
     }
 }

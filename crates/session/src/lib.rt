@@ -2,13 +2,16 @@
 #![tactic(auto)]
 
 ghost use Rattle.std.specs.Prelude.{◌≡◌, false, IfSome};
+ghost use Rattle.lent.specs.Views.{memory_at, SameLent};
 ghost use Rattle.course.specs.Desk.{desk};
-ghost use Rattle.session.specs.Going.{beginning_with, ReadWhole};
+ghost use Rattle.session.specs.Going.{Begins, ReadWhole};
 
+use crate::run::Run;
 use crate::turns::take_turns;
-use course::memory::{Array, Buffer, Charges, Events, LONGEST, NUMBERS, ROOM, Record};
+use course::memory::{Backlog, Buffer, Events, LONGEST, NUMBERS, ROOM};
 use course::{Course, Manner, Place};
 use grammar::Line;
+use lent::memory::LentMut;
 use std::io;
 use std::rt::Files;
 use telling::reading::open;
@@ -16,6 +19,7 @@ use telling::saying::say_not_opened;
 
 mod complaints;
 mod pieces;
+mod run;
 mod stepping;
 mod turns;
 
@@ -24,20 +28,10 @@ const PIECE: usize = 65536;
 
 pub type Piece = [u8; PIECE];
 
-// A run over a file: how many bytes the piece has, whether the file may have more, and whether it could not be read. An enum of the last two
-// would be no plainer: steps and definitions go by `more` alone.
-#[derive(Clone, Copy)]
-pub struct Run {
-    pub course: Course,
-    pub place: Place,
-    pub have: usize,
-    pub more: bool,
-    pub failed: bool,
-}
-
 // Nothing is read yet.
+#[tactic(auto, unfolding(course::specs::Desk::called_all, course::specs::Desk::numbered_from))]
 fn beginning(course: Course) -> Run
-    ensures { result ≡ beginning_with course }
+    ensures { Begins course result }
 {
     Run {
         course,
@@ -77,17 +71,18 @@ fn read_file<R: Print + Eprint, F: io::Read, S: Print>(
     says: &S,
     manner: Manner,
     course: Course,
-    record: &mut Record,
-    array: &mut Array,
-    charges: &mut Charges,
+    memory: &mut LentMut,
     events: &mut Events,
     out: &mut Buffer,
 ) -> Option<Course>
-    ensures { IfSome result (λ after. ReadWhole manner (desk course (record { bytes = «record».old; array = array.old; charges = charges.old }) events.old) after (record { bytes = «record».new; array = array.new; charges = charges.new }) events.new) }
+    ensures same_lent { SameLent memory.old memory.new }
+    ensures whole { IfSome result (λ after. ReadWhole manner (desk course (memory_at memory.old) events.old) after (memory_at memory.new) events.new) }
 {
-    let mut calls = [0u64; NUMBERS * ROOM];
-    let mut numbers = [0u64; ROOM];
-    let mut line = [0u8; LONGEST];
+    let mut backlog = Backlog {
+        calls: [0; NUMBERS * ROOM],
+        numbers: [0; ROOM],
+        line: [0; LONGEST],
+    };
     let mut piece = [0u8; PIECE];
     let run = take_turns(
         rt,
@@ -96,13 +91,9 @@ fn read_file<R: Print + Eprint, F: io::Read, S: Print>(
         says,
         manner,
         beginning(course),
-        record,
-        array,
-        charges,
+        memory,
         events,
-        &mut calls,
-        &mut numbers,
-        &mut line,
+        &mut backlog,
         &mut piece,
         out,
     );
@@ -117,17 +108,16 @@ pub fn read_history<R: Files + Print + Eprint, S: Print>(
     says: &S,
     manner: Manner,
     course: Course,
-    record: &mut Record,
-    array: &mut Array,
-    charges: &mut Charges,
+    memory: &mut LentMut,
     events: &mut Events,
     out: &mut Buffer,
 ) -> Option<Course>
-    ensures { IfSome result (λ after. ReadWhole manner (desk course (record { bytes = «record».old; array = array.old; charges = charges.old }) events.old) after (record { bytes = «record».new; array = array.new; charges = charges.new }) events.new) }
+    ensures same_lent { SameLent memory.old memory.new }
+    ensures whole { IfSome result (λ after. ReadWhole manner (desk course (memory_at memory.old) events.old) after (memory_at memory.new) events.new) }
 {
     match open(rt, path) {
         Some(mut file) => read_file(
-            rt, &mut file, path, says, manner, course, record, array, charges, events, out,
+            rt, &mut file, path, says, manner, course, memory, events, out,
         ),
         None => {
             say_not_opened(says, path);

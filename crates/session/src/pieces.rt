@@ -1,44 +1,43 @@
 // The file comes in pieces.
 ghost use Rattle.std.specs.Prelude.{◌≡◌, true, false, ◌≤◌};
-ghost use Rattle.session.specs.Going.{Standing, with_piece, with_failure, Moves};
+ghost use Rattle.session.specs.Pieces.{piece_bytes};
+ghost use Rattle.session.specs.Going.{WithPiece, with_failure, Moves};
 
-use crate::{Piece, Run};
-use course::Place;
-use course::memory::{Bytes, Calls, Numbers};
+use crate::Piece;
+use crate::run::Run;
+use course::memory::Backlog;
 use std::io::Read;
 use steps::reading::close;
 use telling::saying::say_not_read;
 
 // A new piece of so many bytes.
 fn with_piece(run: Run, have: usize) -> Run
-    ensures { result ≡ with_piece have run }
+    requires { (run.more ≡ true) × (have ≤ piece_bytes) }
+    ensures { WithPiece have run result }
 {
-    Run {
-        place: Place { at: 0, ..run.place },
-        have,
-        ..run
-    }
+    let mut next = run;
+    next.place.at = 0;
+    next.have = have;
+    next
 }
 
 // The file has no more.
-fn closed(run: Run, line: &Bytes, calls: &mut Calls, numbers: &mut Numbers) -> Run
-    requires { Standing run × (run.place.running ≡ false) × (run.have ≤ run.place.at) × (run.more ≡ true) }
-    ensures { Moves run calls.old numbers.old line.now result calls.new numbers.new }
+fn closed(run: Run, backlog: &mut Backlog) -> Run
+    requires { (run.place.running ≡ false) × (run.have ≤ run.place.at) × (run.more ≡ true) }
+    ensures { Moves run backlog.old result backlog.new }
 {
-    Run {
-        place: close(run.place, line, calls, numbers),
-        more: false,
-        ..run
-    }
+    let mut last = run;
+    last.place = close(run.place, backlog);
+    last.more = false;
+    last
 }
 
 fn with_failure(run: Run) -> Run
     ensures { result ≡ with_failure run }
 {
-    Run {
-        failed: true,
-        ..run
-    }
+    let mut broken = run;
+    broken.failed = true;
+    broken
 }
 
 // The next piece of the file, or its end.
@@ -47,13 +46,11 @@ pub fn next_piece<F: Read, S: Print>(
     path: &[u8],
     says: &S,
     run: Run,
-    line: &Bytes,
-    calls: &mut Calls,
-    numbers: &mut Numbers,
+    backlog: &mut Backlog,
     piece: &mut Piece,
 ) -> Run
-    requires { Standing run × (run.place.running ≡ false) × (run.have ≤ run.place.at) × (run.more ≡ true) }
-    ensures { Moves run calls.old numbers.old line.now result calls.new numbers.new }
+    requires { (run.place.running ≡ false) × (run.have ≤ run.place.at) × (run.more ≡ true) }
+    ensures { Moves run backlog.old result backlog.new }
 {
     let bytes: &mut [u8] = piece;
     match file.read(bytes) {
@@ -61,7 +58,7 @@ pub fn next_piece<F: Read, S: Print>(
             say_not_read(says, path);
             with_failure(run)
         }
-        Ok(0) => closed(run, line, calls, numbers),
+        Ok(0) => closed(run, backlog),
         Ok(got) => with_piece(run, got),
     }
 }

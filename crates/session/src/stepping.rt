@@ -1,13 +1,16 @@
 // One step of a run with the bytes of a piece, and what it said.
 ghost use Rattle.std.specs.Prelude.{◌≡◌, false, ◌<◌, length, take};
+ghost use Rattle.lent.specs.Views.{memory_at, SameLent};
 ghost use Rattle.course.specs.Desk.{desk};
-ghost use Rattle.steps.specs.Stepping.{Steps};
-ghost use Rattle.session.specs.Going.{Standing, Goes, reader_in};
+ghost use Rattle.steps.specs.Stepping.{Steps, reader_of};
+ghost use Rattle.session.specs.Going.{Goes, reader_in};
 
+use crate::Piece;
 use crate::complaints::tell;
-use crate::{Piece, Run};
-use course::Manner;
-use course::memory::{Array, Buffer, Bytes, Calls, Charges, Events, Numbers, Record};
+use crate::run::Run;
+use course::Ongoing;
+use course::memory::{Backlog, Buffer, Events};
+use lent::memory::LentMut;
 use steps::{Stepped, step};
 use telling::saying::say_progress;
 
@@ -17,31 +20,23 @@ const MANY: u64 = 100000;
 // One step with the bytes of the piece.
 fn step_in_piece(
     run: Run,
-    manner: Manner,
-    record: &mut Record,
-    array: &mut Array,
-    charges: &mut Charges,
+    ongoing: Ongoing,
+    memory: &mut LentMut,
     events: &mut Events,
-    calls: &mut Calls,
-    numbers: &mut Numbers,
-    line: &mut Bytes,
+    backlog: &mut Backlog,
     piece: &Piece,
     out: &mut Buffer,
 ) -> Stepped
-    requires { Standing run × (run.course.stopped ≡ false) }
-    ensures { (length (take run.have piece.now) ≡ run.have) × Steps manner run.place calls.old numbers.old line.old (take run.have piece.now) (desk run.course (record { bytes = «record».old; array = array.old; charges = charges.old }) events.old) result.place calls.new numbers.new line.new result.course (record { bytes = «record».new; array = array.new; charges = charges.new }) events.new result.complaint out.old out.new result.end }
+    ensures same_lent { SameLent memory.old memory.new }
+    ensures long { length (take run.have piece.now) ≡ run.have }
+    ensures steps { Steps ongoing.manner run.place backlog.old (take run.have piece.now) (desk ongoing.course (memory_at memory.old) events.old) result.place backlog.new result.noted (memory_at memory.new) events.new out.old out.new }
 {
     step(
-        run.course,
-        manner,
+        ongoing,
         run.place,
-        record,
-        array,
-        charges,
+        memory,
         events,
-        calls,
-        numbers,
-        line,
+        backlog,
         &piece[..run.have],
         out,
     )
@@ -56,32 +51,27 @@ fn note_lines<R: Eprint>(rt: &R, before: u64, after: u64) {
 }
 
 // The next step, and what it said.
+#[tactic(auto, using(crate::proofs::Gone::still_inside))]
 pub fn next_step<R: Print + Eprint, S: Print>(
     rt: &R,
     run: Run,
+    ongoing: Ongoing,
     says: &S,
-    manner: Manner,
-    record: &mut Record,
-    array: &mut Array,
-    charges: &mut Charges,
+    memory: &mut LentMut,
     events: &mut Events,
-    calls: &mut Calls,
-    numbers: &mut Numbers,
-    line: &mut Bytes,
+    backlog: &mut Backlog,
     piece: &Piece,
     out: &mut Buffer,
 ) -> Run
-    requires { Standing run × (run.course.stopped ≡ false) × (run.place.running ≡ false → run.place.at < run.have) }
-    ensures { Standing result × Goes manner run.more result.more (reader_in manner run calls.old numbers.old line.old (record { bytes = «record».old; array = array.old; charges = charges.old }) events.old) (reader_in manner result calls.new numbers.new line.new (record { bytes = «record».new; array = array.new; charges = charges.new }) events.new) }
+    requires { run.place.running ≡ false → run.place.at < run.have }
+    ensures same_lent { SameLent memory.old memory.new }
+    ensures goes { Goes ongoing.manner run.more result.more (reader_of ongoing.manner run.place backlog.old (desk ongoing.course (memory_at memory.old) events.old)) (reader_in ongoing.manner result backlog.new (memory_at memory.new) events.new) }
 {
-    let s = step_in_piece(
-        run, manner, record, array, charges, events, calls, numbers, line, piece, out,
-    );
-    tell(rt, says, manner.go_on, out, s.end, line, s.complaint);
+    let s = step_in_piece(run, ongoing, memory, events, backlog, piece, out);
+    tell(rt, says, ongoing.manner.go_on, out, s.noted, &backlog.line);
     note_lines(rt, run.place.lines, s.place.lines);
-    Run {
-        course: s.course,
-        place: s.place,
-        ..run
-    }
+    let mut after = run;
+    after.course = s.noted.course;
+    after.place = s.place;
+    after
 }

@@ -1,12 +1,14 @@
 // A run goes on turn by turn: a step, or a new piece.
-ghost use Rattle.std.specs.Prelude.{◌≡◌};
-ghost use Rattle.session.specs.Going.{Standing, Goes, CanStep, reader_in};
+ghost use Rattle.lent.specs.Views.{memory_at, SameLent};
+ghost use Rattle.session.specs.Going.{Goes, CanStep, reader_in};
 
+use crate::Piece;
 use crate::pieces::next_piece;
+use crate::run::Run;
 use crate::stepping::next_step;
-use crate::{Piece, Run};
-use course::Manner;
-use course::memory::{Array, Buffer, Bytes, Calls, Charges, Events, Numbers, Record};
+use course::memory::{Backlog, Buffer, Events};
+use course::{Manner, Ongoing};
+use lent::memory::LentMut;
 use std::io::Read;
 
 // Whether calls are being run, or bytes of the piece are left.
@@ -24,27 +26,22 @@ fn turn<R: Print + Eprint, F: Read, S: Print>(
     says: &S,
     manner: Manner,
     run: Run,
-    record: &mut Record,
-    array: &mut Array,
-    charges: &mut Charges,
+    memory: &mut LentMut,
     events: &mut Events,
-    calls: &mut Calls,
-    numbers: &mut Numbers,
-    line: &mut Bytes,
+    backlog: &mut Backlog,
     piece: &mut Piece,
     out: &mut Buffer,
 ) -> Run
-    requires { Standing run }
-    ensures { Standing result × Goes manner run.more result.more (reader_in manner run calls.old numbers.old line.old (record { bytes = «record».old; array = array.old; charges = charges.old }) events.old) (reader_in manner result calls.new numbers.new line.new (record { bytes = «record».new; array = array.new; charges = charges.new }) events.new) }
+    ensures same_lent { SameLent memory.old memory.new }
+    ensures goes { Goes manner run.more result.more (reader_in manner run backlog.old (memory_at memory.old) events.old) (reader_in manner result backlog.new (memory_at memory.new) events.new) }
 {
-    if run.course.stopped {
-        run
-    } else if can_step(run) {
-        next_step(
-            rt, run, says, manner, record, array, charges, events, calls, numbers, line, piece, out,
-        )
+    let Some(ongoing) = Ongoing::of(run.course, manner) else {
+        return run;
+    };
+    if can_step(run) {
+        next_step(rt, run, ongoing, says, memory, events, backlog, piece, out)
     } else if run.more {
-        next_piece(file, path, says, run, line, calls, numbers, piece)
+        next_piece(file, path, says, run, backlog, piece)
     } else {
         run
     }
@@ -63,24 +60,19 @@ pub fn take_turns<R: Print + Eprint, F: Read, S: Print>(
     says: &S,
     manner: Manner,
     run: Run,
-    record: &mut Record,
-    array: &mut Array,
-    charges: &mut Charges,
+    memory: &mut LentMut,
     events: &mut Events,
-    calls: &mut Calls,
-    numbers: &mut Numbers,
-    line: &mut Bytes,
+    backlog: &mut Backlog,
     piece: &mut Piece,
     out: &mut Buffer,
 ) -> Run
-    requires { Standing run }
-    ensures { Standing result × Goes manner run.more result.more (reader_in manner run calls.old numbers.old line.old (record { bytes = «record».old; array = array.old; charges = charges.old }) events.old) (reader_in manner result calls.new numbers.new line.new (record { bytes = «record».new; array = array.new; charges = charges.new }) events.new) }
+    ensures same_lent { SameLent memory.old memory.new }
+    ensures goes { Goes manner run.more result.more (reader_in manner run backlog.old (memory_at memory.old) events.old) (reader_in manner result backlog.new (memory_at memory.new) events.new) }
 {
     let mut r = run;
     'turns: for _ in 0..u64::MAX {
         r = turn(
-            rt, file, path, says, manner, r, record, array, charges, events, calls, numbers, line,
-            piece, out,
+            rt, file, path, says, manner, r, memory, events, backlog, piece, out,
         );
         if is_over(r) {
             break;

@@ -1,21 +1,21 @@
 -- One step of a run on lent memory, and the end of its text. The text that a step said and what it complained of, followed by what is still
 -- to come of the calls that wait and the line that is due, is what the bytes read do by the definition of a run. Assumes nothing.
-use Rattle.std.specs.Prelude.{ℕ, ◌≤◌, ◌≡◌, Bool, true, false, List, [], length, Option, option_to_list}
+use Rattle.std.specs.Prelude.{ℕ, ◌≤◌, ◌≡◌, Bool, true, false, List, [], length, option_to_list}
 use Rattle.lent.specs.Memory.{Memory}
 use Rattle.grammar.specs.declared.Line.{Line}
-use Rattle.grammar.specs.declared.Line.TheVariants.{Nothing}
 use Rattle.history.specs.History.{calls_of}
 use Rattle.text.specs.Puts.{Puts}
-use Rattle.course.specs.declared.Complaint.{Complaint}
-use Rattle.course.specs.declared.Course.{Course}
+use Rattle.course.specs.Bounds.{longest, room}
 use Rattle.course.specs.declared.Manner.{Manner}
+use Rattle.course.specs.declared.Noted.{Noted}
 use Rattle.course.specs.declared.Place.{Place}
+use Rattle.course.specs.declared.memory.Backlog.{Backlog}
 use Rattle.course.specs.Desk.{Desk, desk, after_saying}
-use Rattle.course.specs.Reader.{Reader, longest, all_read, read_after, reader_at, desk_at, last_read}
+use Rattle.course.specs.Reader.{Reader, all_read, read_after, reader_at, desk_at, last_read}
 use Rattle.feeding.specs.Feeding.{between}
-use Rattle.taking.specs.Taking.{room, Reading}
+use Rattle.taking.specs.Taking.{Reading}
 
--- A place that a run comes to.
+-- A place that a run comes to: every place is sound.
 pub record Sound (p : Place) : Type 0 where
   pub line_fits : p.length ≤ longest
   pub calls_fit : p.waiting ≤ room
@@ -23,70 +23,55 @@ pub record Sound (p : Place) : Type 0 where
   pub due_no_call : calls_of p.due ≡ []
   pub reads_on : p.running ≡ false → Reading p
 
--- a place where other calls wait, with the next to be run, what is due, and whether they are being run; the rest is its own
-abbrev pub awaiting : ℕ → ℕ → Line → Bool → Place → Place
-awaiting waiting next due running p = record {
-  before = p.before;
-  lines = p.lines;
-  length = p.length;
-  long = p.long;
-  waiting = waiting;
-  next = next;
-  due = due;
-  running = running;
-  at = p.at;
-}
+-- Other calls wait at p' than at p: so many, with the next to be run, what is due, and whether they are being run. The rest is that of p.
+pub record Awaits (p : Place) (waiting next : ℕ) (due : Line) (running : Bool) (p' : Place) : Type 0 where
+  pub before_is : p'.before ≡ p.before
+  pub lines_are : p'.lines ≡ p.lines
+  pub length_is : p'.length ≡ p.length
+  pub long_is : p'.long ≡ p.long
+  pub calls_wait : p'.waiting ≡ waiting
+  pub next_is : p'.next ≡ next
+  pub due_is : p'.due ≡ due
+  pub running_is : p'.running ≡ running
+  pub at_is : p'.at ≡ p.at
 
--- a place at which so many of the waiting calls are run
-abbrev pub run_up_to : ℕ → Place → Place
-run_up_to next p = awaiting p.waiting next p.due p.running p
-
--- a place at which nothing waits and nothing is due
-abbrev pub all_done : Place → Place
-all_done p = awaiting 0 0 Nothing false p
-
--- a place from which the waiting calls are run
-abbrev pub to_run : Place → Place
-to_run p = awaiting p.waiting p.next p.due true p
+-- the desk, once what waits is run and what is due is done
+abbrev pub desk_of : Manner → Place → Backlog → Desk → Desk
+desk_of w p b d = desk_at w p b.calls b.numbers d
 
 -- the reader of a run: where it stands in the text, and the desk once what waits is run and what is due is done
-abbrev pub reader_of : Manner → Place → List ℕ → List ℕ → List ℕ → Desk → Reader
-reader_of w p calls numbers line d = reader_at (desk_at w p calls numbers d) p line
+abbrev pub reader_of : Manner → Place → Backlog → Desk → Reader
+reader_of w p b d = reader_at (desk_of w p b d) p b.line
 
 -- Some of what waits was done, on a desk that is d now, and the place is p'.
-pub record Does (w : Manner) (p : Place) (calls numbers : List ℕ) (before : Desk) (p' : Place) (c : Course) (m : Memory) (events : List ℕ) (complaint : Option Complaint) (out left : List ℕ) (end : ℕ) : Type 0 where
+pub record Does (w : Manner) (p : Place) (b : Backlog) (before : Desk) (p' : Place) (noted : Noted) (m : Memory) (events out left : List ℕ) : Type 0 where
   pub text : List ℕ
-  pub said_is : Puts text 0 out left end
-  pub desk_is : desk_at w p calls numbers before ≡ after_saying text (option_to_list complaint) (desk_at w p' calls numbers (desk c m events))
+  pub said_is : Puts text 0 out left noted.end
+  pub desk_is : desk_of w p b before ≡ after_saying text (option_to_list noted.complaint) (desk_of w p' b (desk noted.course m events))
   pub same_reader : (d : Desk) (line : List ℕ) → reader_at d p line ≡ reader_at d p' line
   pub same_byte : p.at ≡ p'.at
-  pub sound : Sound p'
   -- when calls are run no more, none waits
   pub none_left : p'.running ≡ false → p'.waiting ≡ 0
 
 -- Bytes of a piece were read, and the lines that they end are taken.
-pub record Reads (p : Place) (calls numbers line piece : List ℕ) (p' : Place) (calls' numbers' line' : List ℕ) : Type 0 where
-  pub read : (w : Manner) (d : Desk)
-      → all_read w (between p.at p'.at piece) (reader_of w p calls numbers line d) ≡ reader_of w p' calls' numbers' line' d
+pub record Reads (p : Place) (b : Backlog) (piece : List ℕ) (p' : Place) (b' : Backlog) : Type 0 where
+  pub read : (w : Manner) (d : Desk) → all_read w (between p.at p'.at piece) (reader_of w p b d) ≡ reader_of w p' b' d
   pub onward : p.at ≤ p'.at
   pub inside : p'.at ≤ length piece
-  pub sound : Sound p'
 
 -- A step was taken.
-pub record Steps (w : Manner) (p : Place) (calls numbers line piece : List ℕ) (before : Desk) (p' : Place) (calls' numbers' line' : List ℕ) (c : Course) (m : Memory) (events : List ℕ) (complaint : Option Complaint) (out left : List ℕ) (end : ℕ) : Type 0 where
+pub record Steps (w : Manner) (p : Place) (b : Backlog) (piece : List ℕ) (before : Desk) (p' : Place) (b' : Backlog) (noted : Noted) (m : Memory) (events out left : List ℕ) : Type 0 where
   pub text : List ℕ
-  pub said_is : Puts text 0 out left end
+  pub said_is : Puts text 0 out left noted.end
   -- the bytes that were passed are read
-  pub read : all_read w (between p.at p'.at piece) (reader_of w p calls numbers line before)
-      ≡ read_after text (option_to_list complaint) (reader_of w p' calls' numbers' line' (desk c m events))
+  pub read : all_read w (between p.at p'.at piece) (reader_of w p b before)
+      ≡ read_after text (option_to_list noted.complaint) (reader_of w p' b' (desk noted.course m events))
   pub onward : p.at ≤ p'.at
   pub inside : p'.at ≤ length piece
-  pub sound : Sound p'
   pub none_left : p.running ≡ true → p'.running ≡ false → p'.waiting ≡ 0
 
 -- The text has no more.
-pub record Closes (p : Place) (calls numbers line : List ℕ) (p' : Place) (calls' numbers' : List ℕ) : Type 0 where
-  pub read : (w : Manner) (d : Desk) → last_read w (reader_of w p calls numbers line d) ≡ reader_of w p' calls' numbers' line d
+pub record Closes (p : Place) (b : Backlog) (p' : Place) (b' : Backlog) : Type 0 where
+  pub read : (w : Manner) (d : Desk) → last_read w (reader_of w p b d) ≡ reader_of w p' b' d
   pub runs : p'.running ≡ true
   pub same_byte : p'.at ≡ p.at
-  pub sound : Sound p'

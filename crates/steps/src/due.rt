@@ -1,41 +1,27 @@
 // The line that is due is done: a look is taken, or the line is complained of.
-ghost use Rattle.std.specs.Prelude.{◌≡◌, false, List, [], ℕ};
-ghost use Rattle.history.specs.History.{calls_of};
+ghost use Rattle.std.specs.Prelude.{List, ℕ};
+ghost use Rattle.lent.specs.Views.{memory_in};
 ghost use Rattle.course.specs.Desk.{desk, line_done, Leaves};
 
-use course::{Complaint, Course, Manner, after_left_out};
+use course::{Complaint, Noted, Ongoing, Place, complained};
 use grammar::Line;
-use voices::{Seeing, look};
+use lent::memory::Lent;
+use voices::look;
 
 // Calls are not due: they wait.
-pub fn do_due(
-    course: Course,
-    manner: Manner,
-    number: u64,
-    due: Line,
-    record: &[u8],
-    array: &[u8],
-    charges: &[u64],
-    out: &mut [u8],
-) -> Seeing
-    requires { (calls_of due ≡ []) × (course.stopped ≡ false) }
-    ensures { (events : List ℕ) → Leaves (line_done manner number due (desk course (record { bytes = «record».now; array = array.now; charges = charges.now }) events)) result.course (record { bytes = «record».now; array = array.now; charges = charges.now }) events result.complaint out.old out.new result.end }
+pub fn do_due(ongoing: Ongoing, place: Place, memory: Lent, out: &mut [u8]) -> Noted
+    ensures { (events : List ℕ) → Leaves (line_done ongoing.manner place.lines place.due (desk ongoing.course (memory_in memory.entry) events)) result.course (memory_in memory.entry) events result.complaint out.old out.new result.end }
 {
-    match due {
-        Line::Nothing | Line::Call(_, _) => Seeing {
+    let course = ongoing.course;
+    let manner = ongoing.manner;
+    let number = place.lines;
+    match place.due {
+        Line::Nothing | Line::Call(_, _) => Noted {
             course,
             complaint: None,
             end: 0,
         },
-        Line::Look(time, looking) => {
-            look(
-                course, manner, record, array, charges, number, time, looking, out,
-            )
-        }
-        Line::Wrong(fault) => Seeing {
-            course: after_left_out(course, manner.go_on),
-            complaint: Some(Complaint::Wrong(number, fault)),
-            end: 0,
-        },
+        Line::Look(time, looking) => look(course, manner, memory, number, time, looking, out),
+        Line::Wrong(fault) => complained(course, manner.go_on, Complaint::Wrong(number, fault)),
     }
 }

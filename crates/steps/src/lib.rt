@@ -3,58 +3,54 @@
 // difference.
 #![tactic(auto)]
 
-ghost use Rattle.std.specs.Prelude.{◌≡◌, false, ◌≤◌, length};
+ghost use Rattle.std.specs.Prelude.{◌≤◌, length};
+ghost use Rattle.lent.specs.Views.{memory_at, SameLent};
 ghost use Rattle.course.specs.Desk.{desk};
-ghost use Rattle.steps.specs.Stepping.{Sound, Steps};
+ghost use Rattle.steps.specs.Stepping.{Steps};
 
 use crate::reading::read_lines;
 use crate::waiting::run_on;
-use course::memory::{Array, Bytes, Calls, Charges, Events, Numbers, Record};
-use course::{Complaint, Course, Manner, Place};
+use course::memory::{Backlog, Events};
+use course::{Noted, Ongoing, Place};
+use lent::memory::LentMut;
 
 mod due;
 mod places;
 pub mod reading;
 mod waiting;
 
-// What a step came to: how much it said at the start of the lent bytes, and what it complained of.
+// What a step came to, its text at the start of the lent bytes, and where the run stands then.
 #[derive(Clone, Copy)]
 pub struct Stepped {
-    pub course: Course,
+    pub noted: Noted,
     pub place: Place,
-    pub complaint: Option<Complaint>,
-    pub end: usize,
 }
 
 // The next step: what waits is done where it is to be, else bytes of the piece are read.
 #[tactic(auto, using(crate::proofs::Desks::moved))]
 pub fn step(
-    course: Course,
-    manner: Manner,
+    ongoing: Ongoing,
     place: Place,
-    record: &mut Record,
-    array: &mut Array,
-    charges: &mut Charges,
+    memory: &mut LentMut,
     events: &mut Events,
-    calls: &mut Calls,
-    numbers: &mut Numbers,
-    line: &mut Bytes,
+    backlog: &mut Backlog,
     piece: &[u8],
     out: &mut [u8],
 ) -> Stepped
-    requires { Sound place × (place.at ≤ length piece.now) × (course.stopped ≡ false) }
-    ensures { Steps manner place calls.old numbers.old line.old piece.now (desk course (record { bytes = «record».old; array = array.old; charges = charges.old }) events.old) result.place calls.new numbers.new line.new result.course (record { bytes = «record».new; array = array.new; charges = charges.new }) events.new result.complaint out.old out.new result.end }
+    requires { place.at ≤ length piece.now }
+    ensures same_lent { SameLent memory.old memory.new }
+    ensures steps { Steps ongoing.manner place backlog.old piece.now (desk ongoing.course (memory_at memory.old) events.old) result.place backlog.new result.noted (memory_at memory.new) events.new out.old out.new }
 {
     if place.running {
-        run_on(
-            course, manner, place, record, array, charges, events, calls, numbers, out,
-        )
+        run_on(ongoing, place, memory, events, backlog, out)
     } else {
         Stepped {
-            course,
-            place: read_lines(place, piece, line, calls, numbers),
-            complaint: None,
-            end: 0,
+            noted: Noted {
+                course: ongoing.course,
+                complaint: None,
+                end: 0,
+            },
+            place: read_lines(place, piece, backlog),
         }
     }
 }

@@ -1,33 +1,38 @@
 // Places in the course of a run.
-ghost use Rattle.std.specs.Prelude.{◌≡◌};
-ghost use Rattle.steps.specs.Stepping.{run_up_to, all_done, to_run};
+ghost use Rattle.std.specs.Prelude.{◌≡◌, ◌≤◌, true, false};
+ghost use Rattle.grammar.specs.declared.Line.TheVariants.{Nothing};
+ghost use Rattle.steps.specs.Stepping.{Awaits};
 
 use course::Place;
 use grammar::Line;
 
+// The calls that wait are run up to another.
 pub fn run_up_to(place: Place, next: usize) -> Place
-    ensures { result ≡ run_up_to next place }
+    requires { (next ≤ place.waiting) × (place.running ≡ true) }
+    ensures { Awaits place place.waiting next place.due true result }
 {
-    Place { next, ..place }
+    let mut after = place;
+    after.next = next;
+    after
 }
 
+// Nothing waits and nothing is due.
 pub fn all_done(place: Place) -> Place
-    ensures { result ≡ all_done place }
+    ensures { Awaits place 0 0 Nothing false result }
 {
-    Place {
-        waiting: 0,
-        next: 0,
-        due: Line::Nothing,
-        running: false,
-        ..place
-    }
+    let mut after = place;
+    after.waiting = 0;
+    after.next = 0;
+    after.due = Line::Nothing;
+    after.running = false;
+    after
 }
 
+// The calls that wait are to be run.
 pub fn to_run(place: Place) -> Place
-    ensures { result ≡ to_run place }
+    ensures { Awaits place place.waiting place.next place.due true result }
 {
-    Place {
-        running: true,
-        ..place
-    }
+    let mut after = place;
+    after.running = true;
+    after
 }

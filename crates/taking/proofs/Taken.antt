@@ -1,7 +1,7 @@
 -- A line is taken: the line's call waits behind the calls that waited, or the line is due, so running the one and doing the other does
 -- the line. Assumes nothing.
-use Prim.Native.Nat.{ℕ, ◌-◌, ◌*◌, ◌≤◌}
-use mathlib.Core.Bool.{true, false, cond}
+use Prim.Native.Nat.{ℕ, ◌-◌, ◌*◌, ◌≤◌, ◌<◌}
+use mathlib.Core.Bool.{true, false, cond, ◌||◌}
 use mathlib.Core.Path.{◌≡◌, refl, sym}
 use mathlib.Core.List.{List, [], ◌++◌, append-nil}
 use native.Mathlib.Omega.{arith}
@@ -16,11 +16,12 @@ use Rattle.grammar.specs.declared.Line.TheVariants.{Nothing, Call, Look, Wrong}
 use Rattle.grammar.specs.Grammar.{line_of}
 use Rattle.history.specs.History.{calls_of, time_after, Waiting, waits, Takes}
 use Rattle.verdict.specs.Pulses.{raised}
+use Rattle.course.specs.Bounds.{room}
 use Rattle.course.specs.declared.Manner.{Manner}
 use Rattle.course.specs.declared.Place.{Place}
 use Rattle.course.specs.Desk.{Desk, line_done, called_all, numbered_from}
 use Rattle.course.specs.Reader.{too_long, line_ended}
-use Rattle.taking.specs.Taking.{room, Reading, is_due, due_of, place_after, LineTaken}
+use Rattle.taking.specs.Taking.{Reading, is_due, due_of, PlacedAfter, LineTaken}
 use Rattle.taking.proofs.Waiting.{called-append, numbered, waiting-then}
 
 -- ---- what a line is
@@ -33,23 +34,31 @@ done w n (Call t q) d = refl
 done w n (Look t l) d = refl
 done w n (Wrong f) d = refl
 
-no_call : (l : Line) → calls_of (due_of l) ≡ []
+pub no_call : (l : Line) → calls_of (due_of l) ≡ []
 no_call Nothing = refl
 no_call (Call t q) = refl
 no_call (Look t l) = refl
 no_call (Wrong f) = refl
 
-one-call : (l : Line) → length (calls_of l) ≤ 1
+pub one-call : (l : Line) → length (calls_of l) ≤ 1
 one-call Nothing = omega arith
 one-call (Call t q) = omega arith
 one-call (Look t l) = omega arith
 one-call (Wrong f) = omega arith
 
-none_due : (l : Line) → is_due l ≡ false → due_of l ≡ Nothing
+pub none_due : (l : Line) → is_due l ≡ false → due_of l ≡ Nothing
 none_due Nothing e = refl
 none_due (Call t q) e = refl
 none_due (Look t l) e = cc
 none_due (Wrong f) e = cc
+
+pub has-room : (l : Line) (k : ℕ) → (is_due l || leb room k) ≡ false → k < room
+has-room l k e = leb-false room k (neither (is_due l) (leb room k) e).1
+
+pub not-due : (l : Line) (k : ℕ) → (is_due l || leb room k) ≡ false → due_of l ≡ Nothing
+not-due l k e = none_due l (neither (is_due l) (leb room k) e).0
+
+pub ruleset places = (no_call, has-room, not-due)
 
 -- ---- the place after it
 
@@ -61,37 +70,38 @@ module _ (p : Place) (line calls numbers : List ℕ) (r : Reading p) where
   n = raised p.lines 1
 
   -- what is left to show is which calls wait
-  placed : {b : Option Time} {k : ℕ} {l : Line} {calls' numbers' : List ℕ}
+  placed : {b : Option Time} {k : ℕ} {l : Line} {p' : Place} {calls' numbers' : List ℕ}
+      → PlacedAfter p b n k l p'
       → b ≡ cond p.long p.before (time_after p.before whole)
       → l ≡ cond p.long (Wrong too_long) (line_of p.before whole)
-      → k ≤ room
       → numbered_from k 0 calls' numbers' ≡ numbered_from p.waiting 0 calls numbers ++ numbered n (calls_of l)
-      → LineTaken line p calls numbers (place_after p b n k l) calls' numbers'
+      → LineTaken line p calls numbers p' calls' numbers'
   unfolding line_ended
-  placed {b} {k} {l} after is fits wait =
+  placed {b} {k} {l} a after is wait =
       record {
-        reader_is = λ w d. rw (r.none_due, r.none_run, minus k, minus p.waiting, wait, called-append, done, ← after, ← is);
-        at_is = refl;
-        line_empty = refl;
-        none_run = refl;
-        calls_fit = fits;
-        due_no_call = no_call l;
-        reads_on = λ e. let h = neither (is_due l) (leb room k) e in
-            record { fits = omega arith; has_room = leb-false room k h.1; none_run = refl; none_due = none_due l h.0 };
+        reader_is = λ w d.
+            rw (a.before_is, a.lines_are, a.line_empty, a.line_short, a.calls_wait, a.none_run, a.due_is, r.none_due, r.none_run)
+            (rw (minus k, minus p.waiting, wait, called-append, done, ← after, ← is));
+        at_is = a.at_is;
+        line_empty = a.line_empty;
+        none_run = a.none_run;
       }
     where
       minus : (i : ℕ) → i - 0 ≡ i
       minus i = omega arith
 
   -- a line that is too long leaves those that waited
-  pub unread : p.long ≡ true → LineTaken line p calls numbers (place_after p p.before n p.waiting (Wrong too_long)) calls numbers
-  unread long = placed {l = Wrong too_long} (rw long) (rw long) (omega arith) (sym (append-nil (numbered_from p.waiting 0 calls numbers)))
+  pub unread : {p' : Place} → p.long ≡ true → PlacedAfter p p.before n p.waiting (Wrong too_long) p' → LineTaken line p calls numbers p' calls numbers
+  unread long a = placed a (rw long) (rw long) (sym (append-nil (numbered_from p.waiting 0 calls numbers)))
 
-  -- and another has its own behind them
-  pub parsed : {l : Line} {left : Waiting} → p.long ≡ false → length calls ≡ 3 * room → length numbers ≡ room
-      → Takes whole (waits p.before p.waiting calls) l left
-      → LineTaken line p calls numbers (place_after p left.before n left.count l) left.calls (set numbers p.waiting n)
-  parsed long words beside t =
-      rw (t.line_is, t.left_is)
-      (placed {l = line_of p.before whole} (rw long) (rw long) (omega (arith, one-call (line_of p.before whole)))
+  -- and another has its own behind them, for which there was room
+  pub fits : {l : Line} {left : Waiting} → Takes whole (waits p.before p.waiting calls) l left → left.count ≤ room
+  fits t = rw t.left_is (omega (arith, one-call (line_of p.before whole)))
+
+  pub parsed : {l : Line} {left : Waiting} {p' : Place} → p.long ≡ false → length calls ≡ 3 * room → length numbers ≡ room
+      → Takes whole (waits p.before p.waiting calls) l left → PlacedAfter p left.before n left.count l p'
+      → LineTaken line p calls numbers p' left.calls (set numbers p.waiting n)
+  parsed {l} {left} {p'} long words beside t a =
+      rw (t.left_is)
+      (placed (rw (t.line_is, t.left_is) at a) (rw long) (rw long)
       (waiting-then p.before p.waiting n whole calls numbers (omega arith) (omega arith)))

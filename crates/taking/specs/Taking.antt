@@ -4,14 +4,11 @@ use Rattle.time.specs.declared.Time.{Time}
 use Rattle.grammar.specs.declared.Line.{Line}
 use Rattle.grammar.specs.declared.Line.TheVariants.{Nothing, Call, Look, Wrong}
 use Rattle.history.specs.History.{calls_of}
+use Rattle.course.specs.Bounds.{longest, room}
 use Rattle.course.specs.declared.Manner.{Manner}
 use Rattle.course.specs.declared.Place.{Place}
 use Rattle.course.specs.Desk.{Desk}
-use Rattle.course.specs.Reader.{longest, line_ended, reader_at, desk_at}
-
--- so many calls may wait
-abbrev pub room : ℕ
-room = 1024
+use Rattle.course.specs.Reader.{line_ended, reader_at, desk_at}
 
 -- Lines are read on: the bytes of this one lie in their slice, another call may wait, none is run yet, and no line is due.
 pub record Reading (p : Place) : Type 0 where
@@ -30,28 +27,23 @@ is_due (Wrong f) = true
 abbrev pub due_of : Line → Line
 due_of l = cond (is_due l) l Nothing
 
--- The place after a line, the n-th, with k calls that wait then: they are run where the line is due, or where there is no more room.
-abbrev pub place_after : Place → Option Time → ℕ → ℕ → Line → Place
-place_after p b n k line = record {
-  before = b;
-  lines = n;
-  length = 0;
-  long = false;
-  waiting = k;
-  next = 0;
-  due = due_of line;
-  running = is_due line || leb room k;
-  at = p.at;
-}
+-- p' is the place after a line, the n-th, with k calls that wait then: they are run where the line is due, or where there is no more room.
+pub record PlacedAfter (p : Place) (b : Option Time) (n k : ℕ) (line : Line) (p' : Place) : Type 0 where
+  pub before_is : p'.before ≡ b
+  pub lines_are : p'.lines ≡ n
+  pub line_empty : p'.length ≡ 0
+  pub line_short : p'.long ≡ false
+  pub calls_wait : p'.waiting ≡ k
+  pub none_run : p'.next ≡ 0
+  pub due_is : p'.due ≡ due_of line
+  pub runs : p'.running ≡ (is_due line || leb room k)
+  pub at_is : p'.at ≡ p.at
 
 -- A line was taken at the place p, and p' is the place now. Once the calls that wait at p' are run and what is due there is done, on
--- whatever desk, the line is done after the calls that waited at p. Lines are read on where nothing is to be run or done first.
+-- whatever desk, the line is done after the calls that waited at p.
 pub record LineTaken (line : List ℕ) (p : Place) (calls numbers : List ℕ) (p' : Place) (calls' numbers' : List ℕ) : Type 0 where
   pub reader_is : (w : Manner) (d : Desk)
       → reader_at (desk_at w p' calls' numbers' d) p' line ≡ line_ended w (reader_at (desk_at w p calls numbers d) p line)
   pub at_is : p'.at ≡ p.at
   pub line_empty : p'.length ≡ 0
   pub none_run : p'.next ≡ 0
-  pub calls_fit : p'.waiting ≤ room
-  pub due_no_call : calls_of p'.due ≡ []
-  pub reads_on : p'.running ≡ false → Reading p'

@@ -1,8 +1,9 @@
 // A line of a history that was read whole: its call waits, or it is due.
 #![tactic(auto)]
 
-ghost use Rattle.std.specs.Prelude.{◌≡◌};
-ghost use Rattle.taking.specs.Taking.{Reading, LineTaken, is_due, due_of, place_after};
+ghost use Rattle.std.specs.Prelude.{◌≡◌, ◌≤◌};
+ghost use Rattle.course.specs.Bounds.{room};
+ghost use Rattle.taking.specs.Taking.{Reading, LineTaken, is_due, due_of, PlacedAfter};
 
 use course::memory::{Bytes, Calls, Numbers, ROOM};
 use course::{Place, more};
@@ -36,8 +37,10 @@ fn due_of(line: Line) -> Line
 }
 
 // The place after a line, with its number and the calls that wait then.
+#[tactic(auto, using(crate::proofs::Taken::places))]
 fn place_after(place: Place, before: Option<Time>, lines: u64, waiting: usize, line: Line) -> Place
-    ensures { result ≡ place_after place before lines waiting line }
+    requires { waiting ≤ room }
+    ensures { PlacedAfter place before lines waiting line result }
 {
     let due = due_of(line);
     Place {

@@ -1,4 +1,6 @@
 // What the history begins with: an empty flash, an image, or a snapshot.
+ghost use Rattle.lent.specs.Views.{SameLent};
+
 use crate::Told;
 use crate::reading::{open, read_full};
 use crate::saying::{say_image_length, say_no_snapshot, say_not_opened};
@@ -12,18 +14,18 @@ use std::rt::Files;
 use time::Time;
 
 // A new array. It is refused only where lent memory has not its lengths, which a run's has: that alone is not said.
-fn begin_with(
-    firmware: &[u8],
-    record: &mut [u8],
-    array: &mut [u8],
-    charges: &[u64],
-) -> Result<(), Told> {
-    make(firmware, record, array, charges.len()).map_err(|_| Told)
+fn begin_with(firmware: &[u8], memory: &mut LentMut) -> Result<(), Told>
+    ensures { SameLent memory.old memory.new }
+{
+    let charges = memory.charges.len();
+    make(firmware, memory.record, memory.array, charges).map_err(|_| Told)
 }
 
 // Every byte FF.
-fn begin_empty(record: &mut [u8], array: &mut [u8], charges: &[u64]) -> Result<(), Told> {
-    begin_with(&[0xFF; FLASH_SIZE], record, array, charges)
+fn begin_empty(memory: &mut LentMut) -> Result<(), Told>
+    ensures { SameLent memory.old memory.new }
+{
+    begin_with(&[0xFF; FLASH_SIZE], memory)
 }
 
 // A file's bytes, in the buffer, unless it can't be opened, which is then said.
@@ -45,17 +47,17 @@ fn begin_from_image<R: Files, S: Print>(
     rt: &R,
     path: &[u8],
     says: &S,
-    record: &mut [u8],
-    array: &mut [u8],
-    charges: &[u64],
+    memory: &mut LentMut,
     buffer: &mut [u8],
-) -> Result<(), Told> {
+) -> Result<(), Told>
+    ensures { SameLent memory.old memory.new }
+{
     let image = load(rt, path, says, buffer)?;
     if image.len() != FLASH_SIZE {
         say_image_length(says, path, image.len() as u64);
         return Err(Told);
     }
-    begin_with(image, record, array, charges)
+    begin_with(image, memory)
 }
 
 // A snapshot is taken at the last instant that is accepted. Each call then has to come after its last settling.
@@ -63,42 +65,36 @@ fn begin_from_snapshot<R: Files, S: Print>(
     rt: &R,
     path: &[u8],
     says: &S,
-    record: &mut [u8],
-    array: &mut [u8],
-    charges: &mut [u64],
+    memory: &mut LentMut,
     buffer: &mut [u8],
-) -> Result<(), Told> {
+) -> Result<(), Told>
+    ensures { SameLent memory.old memory.new }
+{
     let snapshot = load(rt, path, says, buffer)?;
     let last = Time(u64::MAX - 1, u64::MAX);
-    let mut memory = LentMut {
-        record,
-        array,
-        charges,
-    };
-    read_snapshot(snapshot, &mut memory, last).map_err(|refusal| {
+    read_snapshot(snapshot, memory, last).map_err(|refusal| {
         say_no_snapshot(says, path, refusal);
         Told
     })
 }
 
-// An image or a snapshot is begun with where one is named. Memory comes as slices one by one, as the crates below take it: each function
-// would take a struct of them apart again.
+// An image or a snapshot is begun with where one is named.
 pub fn begin<R: Files, S: Print>(
     rt: &R,
     image: &[u8],
     snapshot: &[u8],
     says: &S,
-    record: &mut [u8],
-    array: &mut [u8],
-    charges: &mut [u64],
+    memory: &mut LentMut,
     buffer: &mut [u8],
-) -> Result<(), Told> {
+) -> Result<(), Told>
+    ensures { SameLent memory.old memory.new }
+{
     if !image.is_empty() {
-        begin_from_image(rt, image, says, record, array, charges, buffer)
+        begin_from_image(rt, image, says, memory, buffer)
     } else if !snapshot.is_empty() {
-        begin_from_snapshot(rt, snapshot, says, record, array, charges, buffer)
+        begin_from_snapshot(rt, snapshot, says, memory, buffer)
     } else {
-        begin_empty(record, array, charges)
+        begin_empty(memory)
     }
 }
 

@@ -8,7 +8,7 @@ ghost use Rattle.course.specs.Desk.{desk, events_said, value_said, call_said, lo
 
 use crate::looks::look_at;
 use answers::answered;
-use course::{Complaint, Course, Manner, after_left_out};
+use course::{Complaint, Course, Manner, Noted, complained};
 use grammar::Looking;
 use lent::Request;
 use lent::memory::Lent;
@@ -17,14 +17,6 @@ use text::Text;
 use time::Time;
 
 mod looks;
-
-// The course after a look, what is complained of, and where the text ends.
-#[derive(Clone, Copy)]
-pub struct Seeing {
-    pub course: Course,
-    pub complaint: Option<Complaint>,
-    pub end: usize,
-}
 
 // Each event with its time.
 fn put_events(text: &mut Text, time: Time, words: &[u64])
@@ -86,19 +78,15 @@ pub fn look(
     time: Time,
     looking: Looking,
     out: &mut [u8],
-) -> Seeing
+) -> Noted
     ensures { (events : List ℕ) → Leaves (looked manner line looking time (looked_refusal looking time (memory_in lent.entry)) (desk course (memory_in lent.entry) events)) result.course (memory_in lent.entry) events result.complaint out.old out.new result.end }
 {
     match look_at(lent, line, time, looking, out) {
-        Ok(end) => Seeing {
+        Ok(end) => Noted {
             course,
             complaint: None,
             end,
         },
-        Err(refusal) => Seeing {
-            course: after_left_out(course, manner.go_on),
-            complaint: Some(Complaint::Unseen(line, refusal)),
-            end: 0,
-        },
+        Err(refusal) => complained(course, manner.go_on, Complaint::Unseen(line, refusal)),
     }
 }

@@ -8,22 +8,17 @@ use Rattle.text.proofs.Joined.{puts_none}
 use Rattle.serving.proofs.noted.Goals as goal
 
 pub returns-in-Ok : goal.returns-in-Ok
-returns-in-Ok c =
-    let made = c.made.ensures in
-    record { next_is = made.next_is; leaves = λ m. rw c.in-Ok.is (made.leaves m) }
+returns-in-Ok c = λ m. rw c.in-Ok.is (c.made.ensures m)
 
 pub returns-in-Err : goal.returns-in-Err
 returns-in-Err c =
     let r = c.in-Err.refusal in
     let some = ne_eqb (number r) 0 (λ z. omega (arith, number-some r)) in
-    record {
-      next_is = refl;
-      leaves = λ m. rw (c.in-Err.is, some, numbered_number r)
-          (record {
-            course_is = c.after_refusal.ensures;
-            memory_is = refl;
-            events_are = refl;
-            said_is = puts_none 0 _;
-            complaints_are = refl;
-          });
-    }
+    λ m. rw (c.in-Err.is, some, numbered_number r, c.complained.ensures)
+    (record {
+      course_is = refl;
+      memory_is = refl;
+      events_are = refl;
+      said_is = puts_none 0 _;
+      complaints_are = refl;
+    })

@@ -2,9 +2,4 @@
 use Rattle.serving.proofs.noted_at_once.Goals as goal
 
 pub returns : goal.returns
-returns c =
-    let noted = c.noted.ensures in
-    record {
-      next_is = noted.next_is;
-      leaves = λ m. rw (← c.passed-before.ensures, ← c.request_at-request.ensures, ← c.time_at-time.ensures) (noted.leaves m);
-    }
+returns c = λ m. rw (← c.passed-before.ensures, ← c.request_at-request.ensures, ← c.time_at-time.ensures) (c.noted.ensures m)

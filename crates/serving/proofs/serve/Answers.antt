@@ -6,11 +6,9 @@ use Rattle.serving.proofs.serve.Goals as goal
 
 pub noted_at_once-requires : goal.noted_at_once-requires
 noted_at_once-requires c =
-    let d = done-some _ _ c.args.calls.now _ _ c.requires.0 c.requires.1 _ c.replay-answer.ensures.done in
+    let d = done-some _ _ c.args.backlog.now.calls _ _ c.requires.0 (omega (arith, c.requires)) _ c.replay-answer.ensures.done in
     (d.0, omega (arith, d.1, c.requires), omega (arith, d.1, c.requires))
 
-pub returns : goal.returns
-returns c =
-    let s = c.replay-answer.ensures.same in
-    rw (c.record-1.given.1.1 (sym s.same_record), c.array-1.given.1.1 (sym s.same_array), c.charges-1.given.1.1 (sym s.same_charges))
-    (serves _ _ _ _ _ c.requires.0 c.requires.1 _ c.replay-answer.ensures.done _ _ _ c.requires.3 c.noted_at_once.ensures)
+pub returns-clause-serves : goal.returns-clause-serves
+returns-clause-serves c =
+    serves _ _ _ _ _ c.requires.0 (omega (arith, c.requires)) _ c.replay-answer.ensures.done _ _ _ c.args.ongoing.goes_on c.noted_at_once.ensures

@@ -1,12 +1,8 @@
 -- `session::read_file` meets its contract. Assumes nothing.
-use mathlib.Core.List.{[]}
-use Rattle.session.proofs.Gone.{begins, read_if_whole}
+use Rattle.session.proofs.Gone.{read_if_whole}
 use Rattle.session.proofs.read_file.Goals as goal
 
-pub take_turns-run-requires : goal.take_turns-run-requires
-take_turns-run-requires g c = rw c.beginning.ensures (begins _)
-
-pub returns : goal.returns
-returns g c =
-    let turned = c.take_turns-run.ensures in
-    read_if_whole c.whole.result _ _ _ _ _ [] _ _ _ _ _ _ _ turned.0 (rw c.beginning.ensures at turned.1) c.whole.ensures
+pub returns-clause-whole : goal.returns-clause-whole
+returns-clause-whole g c =
+    read_if_whole c.whole.result c.args.manner c.args.course c.beginning.result c.take_turns-run.result _ _ _ _ _ _
+    c.beginning.ensures c.take_turns-run.ensures.goes c.whole.ensures

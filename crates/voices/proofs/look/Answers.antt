@@ -10,4 +10,4 @@ returns-in-Ok c = let a = c.args in left-seen a.manner _ _ _ _ _ _ _ _ c.in-Ok.e
 pub returns-in-Err : goal.returns-in-Err
 returns-in-Err c =
     let a = c.args in
-    left-refused a.manner _ _ _ _ a.course _ _ _ c.in-Err.refusal c.in-Err.ensures c.after_left_out.ensures
+    rw c.complained.ensures (left-refused a.manner _ _ _ _ a.course _ _ _ c.in-Err.refusal c.in-Err.ensures refl)

@@ -1,9 +1,8 @@
 -- `session::stepping::next_step` meets its contract. Assumes nothing.
-use Rattle.session.proofs.Gone.{stepped}
+use Rattle.session.proofs.Gone.{step-goes}
 use Rattle.session.proofs.stepping.next_step.Goals as goal
 
-pub returns : goal.returns
-returns g c =
-    let pre = c.requires in
+pub returns-clause-goes : goal.returns-clause-goes
+returns-clause-goes g c =
     let step = c.step_in_piece-s.ensures in
-    stepped _ _ _ step.0 pre.0 step.1 pre.2
+    step-goes c.args.ongoing.manner c.args.run _ step.long step.steps

@@ -4,5 +4,5 @@ use Rattle.steps.proofs.due.do_due.Goals as goal
 
 pub returns-in-Look : goal.returns-in-Look
 returns-in-Look c = λ events.
-    rw c.in-Look.is
-    (look-due c.args.manner c.args.number c.args.course _ events _ c.in-Look.looking c.in-Look.time c.requires.1 (c.look.ensures events))
+    let on = c.args.ongoing in
+    rw c.in-Look.is (look-due on.manner c.args.place.lines on.course _ events _ c.in-Look.looking c.in-Look.time on.goes_on (c.look.ensures events))

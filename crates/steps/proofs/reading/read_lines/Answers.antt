@@ -2,8 +2,8 @@
 use Rattle.steps.proofs.Lines.{no_bytes, more-lines}
 use Rattle.steps.proofs.reading.read_lines.Goals as goal
 
-pub loop-line-init : goal.loop-line-init
-loop-line-init c = let pre = c.requires in no_bytes _ _ _ _ _ pre.0 pre.1
+pub loop-backlog-init : goal.loop-backlog-init
+loop-backlog-init c = no_bytes _ _ _ c.requires
 
-pub loop-line-preserved : goal.loop-line-preserved
-loop-line-preserved c = more-lines c.loop-line.invariant c.read_on-p.ensures.1
+pub loop-backlog-preserved : goal.loop-backlog-preserved
+loop-backlog-preserved c = more-lines c.loop-backlog.invariant c.read_on-p.ensures.1

@@ -4,8 +4,8 @@ use lib.ListN.{length}
 use Rattle.steps.specs.Stepping.{Reads}
 use Rattle.steps.proofs.reading.read_lines.Given as goal
 
-abbrev pub invariant-loop-line : goal.invariant-loop-line
-invariant-loop-line l = Reads l.initial.p l.initial.calls l.initial.numbers l.initial.line l.piece l.p l.calls l.numbers l.line
+abbrev pub invariant-loop-backlog : goal.invariant-loop-backlog
+invariant-loop-backlog l = Reads l.initial.p l.initial.backlog l.piece l.p l.backlog
 
-abbrev pub decreases-loop-line : goal.decreases-loop-line
-decreases-loop-line l = length l.piece - l.p.at
+abbrev pub decreases-loop-backlog : goal.decreases-loop-backlog
+decreases-loop-backlog l = length l.piece - l.p.at

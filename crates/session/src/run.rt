@@ -1,0 +1,21 @@
+// A run over a file.
+ghost use Rattle.std.specs.Prelude.{◌≡◌, ◌≤◌, false};
+ghost use Rattle.session.specs.Pieces.{piece_bytes};
+
+use course::{Course, Place};
+
+// How many bytes the piece has, whether the file may have more, and whether it could not be read. An enum of the last two would be no
+// plainer: steps and definitions go by `more` alone. Once the file has no more, its last piece is passed, and when calls are run no more,
+// none waits.
+#[derive(Clone, Copy)]
+pub struct Run {
+    pub course: Course,
+    pub place: Place,
+    pub have: usize,
+    pub more: bool,
+    pub failed: bool,
+    pub ghost inside: { place.at ≤ have },
+    pub ghost fits: { have ≤ piece_bytes },
+    pub ghost passed: { more ≡ false → place.at ≡ have },
+    pub ghost none_left: { more ≡ false → place.running ≡ false → place.waiting ≡ 0 },
+}
