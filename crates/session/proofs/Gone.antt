@@ -172,7 +172,7 @@ unfolding called_all numbered_from
 read_whole w c first r b b' m m' events events' s g on more reading =
     let end = nothing-waits w r.place b'.calls b'.numbers (desk r.course m' events') (r.none_left more reading) (r.place.none_due reading) in
     let from-start : read_on first.more r.more w g.bytes (starts_with (desk c m events)) ≡ read_after g.said g.complaints (reader_in w r b' m' events') =
-        ap (read_on first.more r.more w g.bytes) (sym (s.starts w b m events)) ∙ g.read in
+    ap (read_on first.more r.more w g.bytes) (sym (s.starts w b m events)) ∙ g.read in
     let read = rw (s.more_to_come, more) at from-start in
     record { text = g.bytes; said = g.said; complaints = g.complaints; not_stopped = on; desk_is = ap (λ (x : Reader). x.desk) read ∙ rw end }
 

@@ -1,9 +1,8 @@
 -- A line of a history that was read whole: its call waits, or it is due. Assumes nothing.
-use Rattle.std.specs.Prelude.{ℕ, ◌≤◌, ◌<◌, ◌≡◌, Bool, true, false, cond, ◌||◌, List, [], Option, leb}
+use Rattle.std.specs.Prelude.{ℕ, ◌≤◌, ◌<◌, ◌≡◌, Bool, true, false, cond, ◌||◌, List, Option, leb}
 use Rattle.time.specs.declared.Time.{Time}
 use Rattle.grammar.specs.declared.Line.{Line}
 use Rattle.grammar.specs.declared.Line.TheVariants.{Nothing, Call, Look, Wrong}
-use Rattle.history.specs.History.{calls_of}
 use Rattle.course.specs.Bounds.{longest, room}
 use Rattle.course.specs.declared.Manner.{Manner}
 use Rattle.course.specs.declared.Place.{Place}
