@@ -5,12 +5,8 @@ ghost use Rattle.sayings.specs.Sayings.{last_address, end_said, happened, event_
 
 use crate::times::instant;
 use ledger::event_word::{address_in, kind_in, value_in};
+use settling::EventKind;
 use text::Text;
-
-// The kinds of an event.
-const BYTE: u64 = 1;
-
-const COMPLETED: u64 = 2;
 
 // The last address of the range of a pulse that has ended.
 fn last_address(word: u64) -> u64
@@ -23,7 +19,7 @@ fn ended(text: &mut Text, word: u64)
     ensures { Says (end_said word) text.old text.new }
 {
     text.say_either(
-        kind_in(word) == COMPLETED,
+        kind_in(word) == u64::from(EventKind::Completed),
         b": the pulse over $ to $ is completed\n",
         b": the pulse over $ to $ is interrupted\n",
         &[address_in(word), last_address(word)],
@@ -33,7 +29,7 @@ fn ended(text: &mut Text, word: u64)
 fn put_happened(text: &mut Text, word: u64)
     ensures { Says (happened word) text.old text.new }
 {
-    if kind_in(word) == BYTE {
+    if kind_in(word) == u64::from(EventKind::Byte) {
         text.say(b": byte $ becomes &\n", &[address_in(word), value_in(word)]);
     } else {
         ended(text, word);

@@ -1,6 +1,7 @@
 // Pulses by block, counted from event words.
 ghost use Rattle.std.specs.Prelude.{◌≡◌, ◌/◌, take, [], ◌∷◌};
 ghost use Rattle.cell.specs.Cell.{page_bytes};
+ghost use Rattle.settling.specs.Kinds.{kind_number};
 ghost use Rattle.ledger.specs.Words.{address_in};
 ghost use Rattle.verdict.specs.Blocks.{block_of};
 ghost use Rattle.verdict.specs.Pulses.{counted, tallied};
@@ -9,11 +10,7 @@ use crate::Tally;
 use crate::blocks::{BLOCKS, block_of};
 use cell::PAGE;
 use ledger::event_word::{address_in, kind_in};
-
-// The kinds of end event.
-const COMPLETED: u64 = 2;
-
-const INTERRUPTED: u64 = 3;
+use settling::EventKind;
 
 // The block in which the address of a word lies.
 fn word_block(word: u64) -> usize
@@ -24,10 +21,10 @@ fn word_block(word: u64) -> usize
 
 // One word is counted, if it is of the kind and its address lies in a block.
 #[tactic(auto, using(crate::proofs::Ends::one_word))]
-fn count_word(counts: &mut [u64; BLOCKS], kind: u64, word: u64)
-    ensures { counts.new ≡ counted kind (word ∷ []) counts.old }
+fn count_word(counts: &mut [u64; BLOCKS], kind: EventKind, word: u64)
+    ensures { counts.new ≡ counted (kind_number kind) (word ∷ []) counts.old }
 {
-    if kind_in(word) == kind {
+    if kind_in(word) == u64::from(kind) {
         let block = word_block(word);
         if block < BLOCKS {
             counts[block] = counts[block].saturating_add(1);
@@ -36,8 +33,13 @@ fn count_word(counts: &mut [u64; BLOCKS], kind: u64, word: u64)
 }
 
 // The counts after the words of a kind among the first `count` words.
-fn counted(counts: [u64; BLOCKS], kind: u64, events: &[u64], count: usize) -> [u64; BLOCKS]
-    ensures { result ≡ counted kind (take count events.now) counts }
+fn counted(
+    counts: [u64; BLOCKS],
+    kind: EventKind,
+    events: &[u64],
+    count: usize,
+) -> [u64; BLOCKS]
+    ensures { result ≡ counted (kind_number kind) (take count events.now) counts }
 {
     let mut all = counts;
     for word in &events[..count.min(events.len())] {
@@ -52,7 +54,7 @@ pub fn tallied(tally: Tally, events: &[u64], count: usize) -> Tally
     ensures { result ≡ tallied tally (take count events.now) }
 {
     Tally {
-        completed: counted(tally.completed, COMPLETED, events, count),
-        interrupted: counted(tally.interrupted, INTERRUPTED, events, count),
+        completed: counted(tally.completed, EventKind::Completed, events, count),
+        interrupted: counted(tally.interrupted, EventKind::Interrupted, events, count),
     }
 }

@@ -2,8 +2,9 @@
 -- Assumes nothing.
 use mathlib.Core.Path.{◌≡◌}
 use lib.ListN.{length, take}
+use Rattle.settling.specs.Kinds.{kind_number}
 use Rattle.verdict.specs.Pulses.{counted}
 use Rattle.verdict.proofs.pulses.counted.Given as goal
 
 abbrev pub invariant-loop-word : goal.invariant-loop-word
-invariant-loop-word l = (length l.all ≡ 6) × (l.all ≡ counted l.kind (take l.word-index l.word-items) l.initial.all)
+invariant-loop-word l = (length l.all ≡ 6) × (l.all ≡ counted (kind_number l.kind) (take l.word-index l.word-items) l.initial.all)
