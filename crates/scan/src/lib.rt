@@ -1,4 +1,5 @@
 // The first field of a snapshot that is refused, in reading order. Nothing is kept but the page index.
+// A place stays a number beside the bytes: it may be past their end, and each function asks for its own stretch.
 #![tactic(auto)]
 
 pub mod scanned;
