@@ -1,6 +1,5 @@
 // Whether used slots are one-to-one with opened pages, in one walk over the page index.
-ghost use Rattle.std.specs.Prelude.{◌≡◌, length};
-ghost use Rattle.cell.specs.Cell.{pages};
+ghost use Rattle.std.specs.Prelude.{◌≡◌};
 ghost use Rattle.settle.specs.Pages.{slots_sound};
 
 use cell::PAGES;
@@ -10,8 +9,7 @@ use settle::pages::opened;
 const ENTRIES: usize = PAGES + 1;
 
 // From the last page down, an entry is marked if a page passed has it. Without opened pages there is nothing to mark.
-pub fn slots_sound(indices: &[u16]) -> bool
-    requires { length indices.now ≡ pages }
+pub fn slots_sound(indices: &[u16; PAGES]) -> bool
     ensures { result ≡ slots_sound indices.now }
 {
     let used = opened(indices);

@@ -1,42 +1,19 @@
--- What the functions that load a snapshot's values need of places. A state has 256 bytes, or 274 with a pending sense. The charges of one
--- page more go after those of the pages before it, so a loop over the pages stores them one after the other. Assumes nothing.
+-- What the function that loads a snapshot's charges needs of places. The charges of one page more go after those of the pages before it, so
+-- a loop over the pages stores them one after the other. Assumes nothing.
 use mathlib.Core.Path.{◌≡◌, ap, sym, ◌∙◌}
-use mathlib.Core.Bool.{Bool, true, false, cond}
 use mathlib.Core.List.{List, ◌++◌, append_assoc, append-nil}
 use Prim.Native.Nat.{ℕ, zero, suc, ◌+◌, ◌-◌, ◌*◌, ◌≤◌}
 use native.Mathlib.Nat.{zero-add}
 use native.Mathlib.Numerals.{add-one}
 use native.Mathlib.Omega.{arith}
-use lib.Dec.{eqb, lit≤}
 use lib.ListN.{length, take, drop, length-append}
 use lib.Seq.{sets, sets-eq, drop-drop}
-use borrow.Author.Tests.{eq-eqb}
 use borrow.Rule.Slice.PartMut.{put_mid, mid_of, mid_len}
-use Rattle.cell.specs.Cell.{at, page_cells}
+use Rattle.cell.specs.Cell.{page_cells}
 use Rattle.layout.specs.Layout.{row}
 use Rattle.layout.proofs.Packed.{length-row}
 use Rattle.settle.proofs.Stored.{sets-append}
-use Rattle.snapshot.specs.Places.{pages_place, page_length, page_at, state_length, pages_cells}
-
--- ---- the length of a state
-
-pub state-least : (xs : List ℕ) (place : ℕ) → 256 ≤ state_length xs place
-unfolding state_length
-state-least xs place = by (eqb (at xs (place + 251)) 1)
-  where
-    by : (b : Bool) → 256 ≤ cond b 274 256
-    by true = lit≤ tt
-    by false = lit≤ tt
-
-pub state-room : (xs : List ℕ) (place : ℕ) → place + state_length xs place ≤ length xs → place + 256 ≤ length xs
-state-room xs place h = omega (arith, state-least xs place)
-
--- with a pending sense
-pub pending-room : (xs : List ℕ) (place : ℕ) → place + state_length xs place ≤ length xs → at xs (place + 251) ≡ 1 → place + 274 ≤ length xs
-unfolding state_length
-pending-room xs place h e = rw (eq-eqb _ _ e) at h
-
-pub ruleset rooms = (state-least, state-room, pending-room)
+use Rattle.snapshot.specs.Places.{pages_place, page_length, page_at, pages_cells}
 
 -- ---- the charges of pages
 

@@ -14,49 +14,38 @@ use Rattle.flash.specs.Chip.{no_pages}
 use Rattle.layout.specs.Layout.{encoded}
 use Rattle.lent.specs.Memory.{Memory, misfits, last_second}
 use Rattle.snapshot.specs.Asked.{valid, first, read_refusal, memory_read, Left}
-use Rattle.snapshot.specs.Places.{pages_place, page_at, count_in, state_place, state_length, pages_index, pages_cells, flash_at, flash_read, scan_number, place_judged, place_read}
-use Rattle.restore.proofs.Loaded.{state-room}
-use Rattle.snapshot.proofs.Places.{judged-by-place, restored-by-place, scan-room}
+use Rattle.snapshot.specs.Places.{pages_place, count_in, state_place, state_length, pages_index, pages_cells, flash_at, flash_read, scan_number, place_judged, place_read}
+use Rattle.snapshot.proofs.Places.{judged-by-place, restored-by-place}
 
 -- ---- a good scan, then what is left
 
--- where the state stands there is room for it
-pub room : (xs : List ℕ) (count place : ℕ) → scan_number xs ≡ 0 → count ≡ count_in xs → place ≡ page_at count
-    → (place + state_length xs place ≤ length xs) × (place + 256 ≤ length xs)
-room xs count place h c p =
-    let s : place ≡ state_place xs = p ∙ ap page_at c in
-    let r : place + state_length xs place ≤ length xs = rw s (scan-room xs h).2 in
-    (r, state-room xs place r)
-
-module _ (t : Time) (xs : List ℕ) (count place n : ℕ) (index : List ℕ) (c : count ≡ count_in xs) (p : place ≡ page_at count)
-    (l : n ≡ state_length xs place) (ix : index ≡ pages_index (count_in xs) 0 (no_pages pages) xs pages_place)
+-- the state stands in the same bytes, at its place, up to an end
+module _ (t : Time) (xs ys : List ℕ) (place end : ℕ) (index : List ℕ) (y : ys ≡ xs) (p : place ≡ state_place xs)
+    (l : end ≡ place + state_length ys place) (ix : index ≡ pages_index (count_in xs) 0 (no_pages pages) xs pages_place)
   where
-    state-place : place ≡ state_place xs
-    state-place = p ∙ ap page_at c
+    state-end : end ≡ state_place xs + state_length xs (state_place xs)
+    state-end = rw (l, y, p)
 
-    state-end : place + n ≡ state_place xs + state_length xs (state_place xs)
-    state-end = rw (l, state-place)
-
-    pub left_over : place + n < length xs → 11 ≡ place_judged t xs
+    pub left_over : end < length xs → 11 ≡ place_judged t xs
     unfolding place_judged
-    left_over h = rw (← state-end, lt-ltb (place + n) (length xs) h)
+    left_over h = rw (← state-end, lt-ltb end (length xs) h)
 
-    module _ (h : length xs ≤ place + n) (s : Flash) (e : s ≡ flash_at xs place index) (ok : Bool) (v : ok ≡ valid t s) where
+    module _ (h : length xs ≤ end) (s : Flash) (e : s ≡ flash_at ys place index) (ok : Bool) (v : ok ≡ valid t s) where
       flash-read : s ≡ flash_read xs
       unfolding flash_read
-      flash-read = rw (← ix, ← state-place) e
+      flash-read = rw (← ix, ← p, ← y) e
 
       pub not_valid : ok ≡ false → 12 ≡ place_judged t xs
       unfolding place_judged
-      not_valid b = rw (← state-end, le-ltb (place + n) (length xs) h, ← flash-read, ← v, b)
+      not_valid b = rw (← state-end, le-ltb end (length xs) h, ← flash-read, ← v, b)
 
       pub taken : ok ≡ true → (m : Memory) (bytes array charges : List ℕ) → bytes ≡ encoded s → array ≡ take array_bytes xs
-          → charges ≡ sets m.charges 0 (pages_cells count xs pages_place)
+          → charges ≡ sets m.charges 0 (pages_cells (count_in xs) xs pages_place)
           → (0 ≡ place_judged t xs) × Left (place_read 0 xs m) bytes array charges
       unfolding place_judged
       taken b m bytes array charges f g q = (
-        rw (← state-end, le-ltb (place + n) (length xs) h, ← flash-read, ← v, b),
-        record { record_is = f ∙ ap encoded flash-read; array_is = g; charges_are = rw (← c) q },
+        rw (← state-end, le-ltb end (length xs) h, ← flash-read, ← v, b),
+        record { record_is = f ∙ ap encoded flash-read; array_is = g; charges_are = q },
       )
 
 -- ---- from places to the format

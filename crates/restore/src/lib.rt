@@ -4,49 +4,41 @@
 pub mod loading;
 
 ghost use Rattle.std.specs.Prelude.{◌≡◌, false};
-ghost use Rattle.cell.specs.Cell.{pages};
-ghost use Rattle.flash.specs.Chip.{no_pages};
 ghost use Rattle.lent.specs.Memory.{misfits};
 ghost use Rattle.lent.specs.Views.{memory_at, SameLent};
 ghost use Rattle.refusal.specs.Refusal.{told};
 ghost use Rattle.snapshot.specs.Asked.{read_refusal, memory_read, Left};
-ghost use Rattle.snapshot.specs.Places.{pages_place, count_in, pages_index, scan_number, place_judged, place_read};
+ghost use Rattle.snapshot.specs.Places.{place_judged, place_read};
 
 use crate::loading::{flash_at, load_pages};
-use cell::{FLASH_SIZE, PAGES};
+use cell::FLASH_SIZE;
 use coding::write;
 use lent::checking::{last_second, sizes_misfit};
 use lent::making::copy;
 use lent::memory::LentMut;
 use refusal::Refusal;
-use scan::{count_in, scan, state_length};
-use snapshot::page_at;
+use scan::scan;
+use scan::scanned::Scanned;
 use time::Time;
 use validity::valid;
 
 // A snapshot whose fields are all good is taken, unless bytes are left over or its state is not valid.
-fn take(
-    bytes: &[u8],
-    indices: [u16; PAGES],
-    memory: &mut LentMut,
-    time: Time,
-) -> Result<(), Refusal>
-    requires { (scan_number bytes.now ≡ 0) × (indices ≡ pages_index (count_in bytes.now) 0 (no_pages pages) bytes.now pages_place) × (misfits (memory_at memory.old) ≡ false) }
+fn take(snapshot: &Scanned, memory: &mut LentMut, time: Time) -> Result<(), Refusal>
+    requires { misfits (memory_at memory.old) ≡ false }
     ensures same { SameLent memory.old memory.new }
-    ensures judged { told result ≡ place_judged time bytes.entry.now }
-    ensures left { Left (place_read (told result) bytes.entry.now (memory_at memory.old)) memory.new.«record».now memory.new.array.now memory.new.charges.now }
+    ensures judged { told result ≡ place_judged time snapshot.now.bytes.now }
+    ensures left { Left (place_read (told result) snapshot.now.bytes.now (memory_at memory.old)) memory.new.«record».now memory.new.array.now memory.new.charges.now }
 {
-    let count = count_in(bytes);
-    let at = page_at(count);
-    if at + state_length(bytes, at) < bytes.len() {
+    let state = snapshot.state();
+    if state.end() < snapshot.bytes.len() {
         return Err(Refusal::LeftOver);
     }
-    let flash = flash_at(bytes, at, indices);
+    let flash = flash_at(state, snapshot.indices);
     if !valid(time, flash) {
         return Err(Refusal::Invalid);
     }
-    copy(&bytes[0..FLASH_SIZE], memory.array);
-    load_pages(bytes, count, memory.charges);
+    copy(&snapshot.bytes[0..FLASH_SIZE], memory.array);
+    load_pages(snapshot, memory.charges);
     write(memory.record, flash);
     Ok(())
 }
@@ -67,6 +59,5 @@ pub fn read_snapshot(bytes: &[u8], memory: &mut LentMut, time: Time) -> Result<(
     if last_second(time) {
         return Err(Refusal::LastSecond);
     }
-    let indices = scan(bytes)?;
-    take(bytes, indices, memory, time)
+    take(&scan(bytes)?, memory, time)
 }

@@ -1,8 +1,8 @@
 // The values that stand in a snapshot, by their places.
 ghost use Rattle.std.specs.Prelude.{◌≡◌, ◌+◌, ◌≤◌, length};
 ghost use Rattle.std.proofs.lemmas.List.Edits.{sets};
-ghost use Rattle.cell.specs.Cell.{pages, array_cells};
-ghost use Rattle.snapshot.specs.Places.{page_at, pages_place, pages_cells, state_length, time_at, pending_at, registers_at, flash_at};
+ghost use Rattle.cell.specs.Cell.{array_cells};
+ghost use Rattle.snapshot.specs.Places.{pages_place, count_in, pages_cells, time_at, pending_at, registers_at, flash_at};
 
 use cell::{PAGE, PAGE_CELLS, PAGES};
 use coding::state::{mode_of, supply_of};
@@ -11,7 +11,8 @@ use flash::Flash;
 use registers::Registers;
 use rows::get_row;
 use rows::numbers::Number;
-use scan::state_length;
+use scan::scanned::Scanned;
+use scan::state::StateAt;
 use snapshot::page_at;
 use time::Time;
 
@@ -25,12 +26,13 @@ fn time_at(bytes: &[u8], at: usize) -> Time
     Time(high, low)
 }
 
-// The pending sense of the state at a place; every state has 256 bytes at least.
-#[tactic(auto, using(crate::proofs::Loaded::rooms))]
-fn pending_at(bytes: &[u8], at: usize) -> Option<PendingSense>
-    requires { at + state_length bytes.now at ≤ length bytes.now }
-    ensures { (result ≡ pending_at bytes.now at) × (at + 256 ≤ length bytes.now) }
+// The pending sense of a state; every state has 256 bytes at least.
+#[tactic(auto, using(scan::proofs::States::rooms))]
+fn pending_at(state: StateAt) -> Option<PendingSense>
+    ensures sense { result ≡ pending_at state.entry.bytes.now state.entry.at }
+    ensures room { state.entry.at + 256 ≤ length state.entry.bytes.now }
 {
+    let StateAt { bytes, at } = state;
     if bytes[at + 251] == 1 {
         let address = u16::get(bytes, at + 252);
         let ready = time_at(bytes, at + 254);
@@ -40,11 +42,11 @@ fn pending_at(bytes: &[u8], at: usize) -> Option<PendingSense>
 }
 
 #[tactic(auto, unfolding(snapshot::specs::Places::registers_at))]
-fn registers_at(bytes: &[u8], at: usize) -> Registers
-    requires { at + state_length bytes.now at ≤ length bytes.now }
-    ensures { result ≡ registers_at bytes.now at }
+fn registers_at(state: StateAt) -> Registers
+    ensures { result ≡ registers_at state.entry.bytes.now state.entry.at }
 {
-    let pending = pending_at(bytes, at);
+    let pending = pending_at(state);
+    let StateAt { bytes, at } = state;
     let mut latch = [0u8; PAGE];
     get_row(bytes, at + 5, &mut latch);
     Registers {
@@ -69,16 +71,15 @@ fn registers_at(bytes: &[u8], at: usize) -> Registers
     }
 }
 
-// The state at a place, with a page index.
-#[tactic(auto, using(crate::proofs::Loaded::rooms), unfolding(snapshot::specs::Places::flash_at))]
-pub fn flash_at(bytes: &[u8], at: usize, indices: [u16; PAGES]) -> Flash
-    requires { at + state_length bytes.now at ≤ length bytes.now }
-    ensures { result ≡ flash_at bytes.now at indices }
+// A state with a page index.
+#[tactic(auto, using(scan::proofs::States::rooms), unfolding(snapshot::specs::Places::flash_at))]
+pub fn flash_at(state: StateAt, indices: [u16; PAGES]) -> Flash
+    ensures { result ≡ flash_at state.entry.bytes.now state.entry.at indices }
 {
-    let registers = registers_at(bytes, at);
-    let since = time_at(bytes, at + 219);
+    let registers = registers_at(state);
+    let since = time_at(state.bytes, state.at + 219);
     let mut sensed = [0u8; 4];
-    get_row(bytes, at + state_length(bytes, at) - 4, &mut sensed);
+    get_row(state.bytes, state.end() - 4, &mut sensed);
     Flash {
         registers: registers,
         pulse_since: since,
@@ -87,14 +88,14 @@ pub fn flash_at(bytes: &[u8], at: usize, indices: [u16; PAGES]) -> Flash
     }
 }
 
-// The charges of so many pages go to their slots; the other slots keep their numbers.
-pub fn load_pages(bytes: &[u8], count: usize, charges: &mut [u64])
-    requires { (count ≤ pages) × (page_at count ≤ length bytes.now) × (length charges.old ≡ array_cells) }
-    ensures { charges.new ≡ sets charges.old 0 (pages_cells count bytes.now pages_place) }
+// The charges of a snapshot's pages go to their slots; the other slots keep their numbers.
+pub fn load_pages(snapshot: &Scanned, charges: &mut [u64])
+    requires { length charges.old ≡ array_cells }
+    ensures { charges.new ≡ sets charges.old 0 (pages_cells (count_in snapshot.now.bytes.now) snapshot.now.bytes.now pages_place) }
 {
-    for slot in 0..count {
+    for slot in 0..snapshot.count() {
         let from = slot * PAGE_CELLS;
         let to = from + PAGE_CELLS;
-        get_row(bytes, page_at(slot) + 2, &mut charges[from..to]);
+        get_row(snapshot.bytes, page_at(slot) + 2, &mut charges[from..to]);
     }
 }

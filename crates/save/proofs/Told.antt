@@ -9,7 +9,7 @@ use lib.Dec.{ltb}
 use borrow.Author.Tests.{lt-ltb, le-ltb}
 use lib.ListN.{length, drop}
 use lib.Seq.{sets, sets-eq}
-use Rattle.cell.specs.Cell.{at, array_bytes, array_cells}
+use Rattle.cell.specs.Cell.{at}
 use Rattle.settle.specs.Pages.{opened}
 use Rattle.settle.proofs.Slots.{opened-le}
 use Rattle.flash.specs.declared.held.Held.{Held}

@@ -1,13 +1,18 @@
 // The first field of a snapshot that is refused, in reading order. Nothing is kept but the page index.
+// A place stays a number beside the bytes: it may be past their end, and each function asks for its own stretch.
 #![tactic(auto)]
 
-ghost use Rattle.std.specs.Prelude.{◌≡◌, ◌+◌, ◌*◌, ◌/◌, ◌^◌, ◌<◌, ◌≤◌, [], length, if◌then◌else◌, nat_le, nat_lt, OnOk};
+pub mod scanned;
+pub mod state;
+
+ghost use Rattle.std.specs.Prelude.{◌≡◌, ◌+◌, ◌*◌, ◌/◌, ◌^◌, ◌<◌, ◌≤◌, [], length, if◌then◌else◌, nat_le, nat_lt, OnOk, IfOk};
 ghost use Rattle.cell.specs.Cell.{FULL, page_bytes, pages};
 ghost use Rattle.flash.specs.Chip.{no_pages};
 ghost use Rattle.layout.specs.Layout.{word};
 ghost use Rattle.refusal.specs.Refusal.{told, Answers};
 ghost use Rattle.snapshot.specs.Places.{pages_place, count_in, cells_number, address_number, with_page, pages_number, pages_index, bytes_number, end_number, state_length, state_number, scan_number};
 
+use crate::scanned::Scanned;
 use cell::{FULL, PAGE, PAGE_BYTES, PAGES};
 use checks::placed;
 use refusal::Refusal;
@@ -60,8 +65,8 @@ fn check_cells(bytes: &[u8], at: usize, count: usize) -> Result<(), Refusal>
 
 // The address of a charge page: a field that is refused if it is misaligned, past the end or in the index already.
 #[tactic(auto, unfolding(snapshot::specs::Places::address_number))]
-fn check_address(bytes: &[u8], at: usize, indices: &[u16]) -> Result<(), Refusal>
-    requires { (at < 2 ^ 32) × (length indices.now ≡ pages) }
+fn check_address(bytes: &[u8], at: usize, indices: &[u16; PAGES]) -> Result<(), Refusal>
+    requires { at < 2 ^ 32 }
     ensures { told result ≡ address_number indices.now bytes.now at }
 {
     if bytes.len() < at + 2 {
@@ -79,8 +84,8 @@ fn check_address(bytes: &[u8], at: usize, indices: &[u16]) -> Result<(), Refusal
 
 // A page is entered in the index with its slot.
 #[tactic(auto, unfolding(snapshot::specs::Places::with_page))]
-fn enter_page(indices: &mut [u16], slot: usize, bytes: &[u8], at: usize)
-    requires { (length indices.old ≡ pages) × (slot < pages) × (at + 2 ≤ length bytes.now) × (word 2 bytes.now at / 128 < pages) }
+fn enter_page(indices: &mut [u16; PAGES], slot: usize, bytes: &[u8], at: usize)
+    requires { (slot < pages) × (at + 2 ≤ length bytes.now) × (word 2 bytes.now at / 128 < pages) }
     ensures { indices.new ≡ with_page indices.old slot bytes.now at }
 {
     let page = usize::from(u16::get(bytes, at)) / PAGE;
@@ -88,8 +93,8 @@ fn enter_page(indices: &mut [u16], slot: usize, bytes: &[u8], at: usize)
 }
 
 // The charge pages. Reading stops at the first quarter of a page that has a bad cell.
-fn check_pages(bytes: &[u8], count: usize, indices: &mut [u16]) -> Result<(), Refusal>
-    requires { (count ≤ pages) × (length indices.old ≡ pages) }
+fn check_pages(bytes: &[u8], count: usize, indices: &mut [u16; PAGES]) -> Result<(), Refusal>
+    requires { count ≤ pages }
     ensures { (told result ≡ pages_number count 0 indices.old bytes.now pages_place) × OnOk result (indices.new ≡ pages_index count 0 indices.old bytes.now pages_place) }
 {
     // The loops are left from inside, by the label: reading stops at the first bad cell.
@@ -141,7 +146,7 @@ fn check_end(bytes: &[u8], end: usize) -> Result<(), Refusal>
 
 // The bytes of the state that stands at a place: 18 more with a pending sense.
 #[tactic(auto, unfolding(snapshot::specs::Places::state_length))]
-pub fn state_length(bytes: &[u8], at: usize) -> usize
+fn state_length(bytes: &[u8], at: usize) -> usize
     requires { at + 252 ≤ length bytes.now }
     ensures { result ≡ state_length bytes.now at }
 {
@@ -165,17 +170,18 @@ fn check_state(bytes: &[u8], at: usize) -> Result<(), Refusal>
 }
 
 // The count of charge pages.
-pub fn count_in(bytes: &[u8]) -> usize
+fn count_in(bytes: &[u8]) -> usize
     requires { pages_place ≤ length bytes.now }
     ensures { result ≡ count_in bytes.now }
 {
     u32::get(bytes, COUNT) as usize
 }
 
-// The whole of it: the page index, or the first field that is refused.
+// The whole of it: the snapshot with its page index, or the first field that is refused.
 #[tactic(auto, using(crate::proofs::Turns::many))]
-pub fn scan(bytes: &[u8]) -> Result<[u16; PAGES], Refusal>
-    ensures { Answers (scan_number bytes.now) (pages_index (count_in bytes.now) 0 (no_pages pages) bytes.now pages_place) result }
+pub fn scan(bytes: &[u8]) -> Result<Scanned<'_>, Refusal>
+    ensures told { told result ≡ scan_number bytes.now }
+    ensures same { IfOk result (λ snapshot. snapshot.bytes.now ≡ bytes.now) }
 {
     if bytes.len() < FIRST_PAGE {
         return Err(Refusal::EndsEarly);
@@ -187,5 +193,5 @@ pub fn scan(bytes: &[u8]) -> Result<[u16; PAGES], Refusal>
     let mut indices = [0u16; PAGES];
     check_pages(bytes, count, &mut indices)?;
     check_state(bytes, page_at(count))?;
-    Ok(indices)
+    Ok(Scanned { bytes, indices })
 }

@@ -13,21 +13,17 @@ pub returns-then-last_second-clause-refused : goal.returns-then-last_second-clau
 returns-then-last_second-clause-refused c =
     time-refused _ _ _ (sym c.sizes_misfit.ensures ∙ c.if-sizes_misfit.false) (sym c.last_second.ensures ∙ c.if-last_second.true)
 
-pub returns-in_err-indices : goal.returns-in_err-indices
-returns-in_err-indices c =
+pub returns-in_err-scan : goal.returns-in_err-scan
+returns-in_err-scan c =
     let t =
     scan-refused _ _ _ (λ j. (c.type_inv.bytes j).fits) (sym c.sizes_misfit.ensures ∙ c.if-sizes_misfit.false)
-    (sym c.last_second.ensures ∙ c.if-last_second.false) _ c.in_err-indices.ensures (refused _) in
+    (sym c.last_second.ensures ∙ c.if-last_second.false) _ c.in_err-scan.ensures.told (refused _) in
     rw (passed-on _ c.from_residual.ensures.1) (record { same = record { same_record = refl; same_array = refl; same_charges = refl }; refused = t.0; left = t.1 })
-
-pub take-requires : goal.take-requires
-take-requires c =
-    let n = c.in_ok-indices.ensures in
-    (n.0, n.1, sym c.sizes_misfit.ensures ∙ c.if-sizes_misfit.false)
 
 pub returns : goal.returns
 returns c =
+    let e = c.in_ok-scan.ensures in
     let t =
     read-by-place _ _ _ (λ j. (c.type_inv.bytes j).fits) (sym c.sizes_misfit.ensures ∙ c.if-sizes_misfit.false)
-    (sym c.last_second.ensures ∙ c.if-last_second.false) _ _ _ _ c.in_ok-indices.ensures.0 c.take.ensures.judged c.take.ensures.left in
+    (sym c.last_second.ensures ∙ c.if-last_second.false) _ _ _ _ (sym e.told) (rw e.same at c.take.ensures.judged) (rw e.same at c.take.ensures.left) in
     record { same = c.take.ensures.same; refused = t.0; left = t.1 }

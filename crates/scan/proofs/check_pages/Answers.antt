@@ -11,7 +11,7 @@ pages-init c = (refl, record { there = refl; long = refl; rest = rw sub-zero; in
 
 pub enter_page-requires : goal.enter_page-requires
 enter_page-requires c =
-    let a = address-fits _ _ _ (sym c.in_default.ensures) in (omega arith, omega arith, a.0, a.1)
+    let a = address-fits _ _ _ (sym c.in_default.ensures) in (omega arith, a.0, a.1)
 
 pub loop-quarter-init : goal.loop-quarter-init
 loop-quarter-init c =

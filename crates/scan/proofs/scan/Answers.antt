@@ -7,13 +7,13 @@ use Rattle.snapshot.specs.Places.{count_number, scan_number}
 use Rattle.scan.proofs.Turns.{first_stops, first_passes, counted, place-small, refused}
 use Rattle.scan.proofs.scan.Goals as goal
 
-pub returns-then-bytes-lt-FIRST_PAGE : goal.returns-then-bytes-lt-FIRST_PAGE
+pub returns-then-bytes-lt-FIRST_PAGE-clause-told : goal.returns-then-bytes-lt-FIRST_PAGE-clause-told
 unfolding scan_number count_number
-returns-then-bytes-lt-FIRST_PAGE c = rw (lt-ltb _ _ c.if-bytes-lt-FIRST_PAGE.true)
+returns-then-bytes-lt-FIRST_PAGE-clause-told c = rw (lt-ltb _ _ c.if-bytes-lt-FIRST_PAGE.true)
 
-pub returns-in_err-check_pages : goal.returns-in_err-check_pages
+pub returns-in_err-check_pages-clause-told : goal.returns-in_err-check_pages-clause-told
 unfolding no_pages
-returns-in_err-check_pages c =
+returns-in_err-check_pages-clause-told c =
     let few : c.count_in-count.result ≤ pages = omega arith in
     let n = counted _ _ _ c.if-bytes-lt-FIRST_PAGE.false c.count_in-count.ensures few refl in
     rw (passed-on _ c.from_residual.ensures.1) (first_stops _ c.in_err-check_pages.ensures.0 (refused _) ∙ sym n)
@@ -23,18 +23,21 @@ check_state-requires c =
     let few : c.count_in-count.result ≤ pages = omega arith in
     rw c.page_at.ensures (place-small _ few)
 
-pub returns-in_err-check_state : goal.returns-in_err-check_state
+pub returns-in_err-check_state-clause-told : goal.returns-in_err-check_state-clause-told
 unfolding no_pages
-returns-in_err-check_state c =
+returns-in_err-check_state-clause-told c =
     let few : c.count_in-count.result ≤ pages = omega arith in
     let n = counted _ _ _ c.if-bytes-lt-FIRST_PAGE.false c.count_in-count.ensures few refl in
     rw (passed-on _ c.from_residual-in_err-check_state.ensures.1) (c.in_err-check_state.ensures ∙ rw c.page_at.ensures (sym (n ∙ first_passes _ c.in_ok-check_pages.ensures.0 refl)))
 
-pub returns : goal.returns
+pub invariant_of-result : goal.invariant_of-result
 unfolding no_pages
-returns c =
+invariant_of-result c =
     let few : c.count_in-count.result ≤ pages = omega arith in
     let k = c.count_in-count.ensures in
     let e = c.in_ok-check_pages.ensures in
     let n = counted _ _ _ c.if-bytes-lt-FIRST_PAGE.false k few refl in
-    (n ∙ first_passes _ e.0 refl ∙ rw (← c.page_at.ensures) (sym c.in_ok-check_state.ensures), rw (← k) e.1)
+    record {
+      good = n ∙ first_passes _ e.0 refl ∙ rw (← c.page_at.ensures) (sym c.in_ok-check_state.ensures);
+      indexed = rw (← k) e.1;
+    }

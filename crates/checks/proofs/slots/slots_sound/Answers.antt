@@ -13,7 +13,7 @@ pub returns-then-used-eq0 : goal.returns-then-used-eq0
 returns-then-used-eq0 c = sym (none-opened c.args.indices.now (sym c.opened-used.ensures.0 ∙ c.if-used-eq0.true))
 
 pub loop-i-init : goal.loop-i-init
-loop-i-init c = (refl, none_passed _ 384 c.args.indices.now c.requires)
+loop-i-init c = (refl, none_passed _ 384 c.args.indices.now (omega arith))
 
 pub returns-then-used-entry : goal.returns-then-used-entry
 returns-then-used-entry c =
