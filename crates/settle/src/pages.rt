@@ -23,30 +23,6 @@ pub fn opened(indices: &[u16]) -> usize
     usize::from(n)
 }
 
-// The charge of the cell i.
-pub fn cell_at(indices: &[u16], array: &[u8], charges: &[u64], i: usize) -> u64
-    requires { (length indices.now ≡ pages) × (slots_sound indices.now ≡ true) × (length array.now ≡ array_bytes) × (length charges.now ≡ array_cells) × (i < array_cells) }
-    ensures { result ≡ cell_at (record { index = indices.now; array = array.now; charges = charges.now }) i }
-{
-    let entry = usize::from(indices[i / PAGE_CELLS]);
-    if entry == 0 {
-        return first_charge(bit(array[i / 8], i % 8));
-    }
-    charges[(entry - 1) * PAGE_CELLS + i % PAGE_CELLS]
-}
-
-// The charges of the eight cells of the byte at an address.
-pub fn byte_cells(indices: &[u16], array: &[u8], charges: &[u64], address: usize) -> [u64; 8]
-    requires { (length indices.now ≡ pages) × (slots_sound indices.now ≡ true) × (length array.now ≡ array_bytes) × (length charges.now ≡ array_cells) × (address < array_bytes) }
-    ensures { result ≡ tabulate (λ k. cell_at (record { index = indices.now; array = array.now; charges = charges.now }) (8 * address + k)) 8 }
-{
-    let mut cells = [0u64; 8];
-    for k in 0..8 {
-        cells[k] = cell_at(indices, array, charges, 8 * address + k);
-    }
-    cells
-}
-
 // A page takes its slot, the next one if it has none, and its cells are charged there. The answer is the slot.
 pub fn charge_page(
     indices: &mut [u16],

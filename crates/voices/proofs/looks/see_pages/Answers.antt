@@ -14,4 +14,4 @@ pub returns : goal.returns
 returns c =
     let s = c.in_ok-see_image.ensures in
     let e = s.refused ∙ image-refusal _ _ _ (search rules) in
-    (sym e, c.legible_pages.ensures.refused ∙ rw (s.left ∙ image-seen _ _ _ (search rules) _ e refl))
+    (sym e, c.legible_pages.ensures.0 ∙ rw (s.left ∙ image-seen _ _ _ (search rules) _ e refl))
