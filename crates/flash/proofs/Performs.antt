@@ -12,16 +12,12 @@ use lib.ListN.{length, length-append}
 use lib.Seq.{sets, length-sets}
 use Rattle.std.specs.Prelude.{Option}
 use Rattle.time.specs.declared.Time.{Time}
-use Rattle.cell.specs.Cell.{array_bytes, array_cells, pages}
 use Rattle.registers.specs.declared.Registers.{Registers}
 use Rattle.registers.specs.declared.Call.{Call}
 use Rattle.registers.specs.Pulses.{pulse}
 use Rattle.registers.specs.Calls.{settles, next}
-use Rattle.settle.specs.Pages.{slots_sound}
 use Rattle.settle.specs.Settling.{range_bytes, changes, settled_by, ends_of, end_words, sensed_by, Left}
 use Rattle.flash.specs.Chip.{Chip, registers, cells, settled_at, step, step_if, sensed_after, settled_answer, stored_answer, answer_limit, Fit, Performed}
-use Rattle.settle.proofs.Slots.{Slots, slots-from, slots-sound}
-use Rattle.settle.proofs.Expose.{settled-slots, settled-array-length}
 use Rattle.settle.proofs.Stored.{sets-append}
 use Rattle.flash.proofs.Room.{changes-room}
 use Rattle.registers.specs.declared.Pulse.{Pulse}
@@ -38,24 +34,6 @@ room-le k n h = by (dec_le 1 k)
 module _ (now : Time) (k : Chip) (fit : Fit k) (o : Option Pulse) (open_is : o ≡ pulse (registers k)) {lent index array charges events : List ℕ} {count : ℕ}
     (left : Left (settled_by o (registers k).latch k.flash.pulse_since now (cells k))
     (changes 0 k.array (settled_by o (registers k).latch k.flash.pulse_since now (cells k)).array) lent index array charges events count) where
-  slots-left : Slots index charges
-  slots-left =
-      rw (left.index_is, left.charges_is)
-      (settled-slots (registers k).latch k.flash.pulse_since now (cells k) o (slots-from _ _ fit.index_long fit.charges_long fit.slots))
-
-  pub index-left : length index ≡ pages
-  index-left = slots-left.pages
-
-  pub sound-left : slots_sound index ≡ true
-  sound-left = slots-sound slots-left
-
-  pub array-left : length array ≡ array_bytes
-  array-left =
-      ap length left.array_is ∙ settled-array-length (registers k).latch k.flash.pulse_since now (cells k) o ∙ fit.array_long
-
-  pub charges-left : length charges ≡ array_cells
-  charges-left = slots-left.room
-
   pub count_room : count ≤ range_bytes o
   count_room = rw (left.count_is, open_is) (changes-room now k)
 

@@ -13,7 +13,7 @@ use parts::answering::{settled_answer, stored_answer};
 use parts::ending::end_pulse;
 use parts::verifying::sense;
 use registers::Call;
-use settle::cells::CellsRef;
+use settle::cells::CellsMut;
 use settling::settle;
 use time::accepted::Accepted;
 
@@ -52,10 +52,13 @@ fn perform_settling(
     let latch = registers.latch;
     let mut indices = flash.indices;
     let pulse = registers.pulse();
-    let changed = settle(
-        &mut indices,
+    let mut cells = CellsMut {
+        index: &mut indices,
         array,
         charges,
+    };
+    let changed = settle(
+        &mut cells,
         events,
         pulse,
         &latch,
@@ -64,13 +67,8 @@ fn perform_settling(
     );
     let next = next(registers, call, now);
     let count = end_pulse(events, changed, call, next.control, pulse, next.pulse());
-    let cells = CellsRef {
-        index: &indices,
-        array,
-        charges,
-    };
     let old = flash.sensed;
-    let sensed = sense(registers, now.time, &cells, old);
+    let sensed = sense(registers, now.time, &cells.seen(), old);
     let value = settled_answer(call, now.time, pulse, registers, sensed);
     let kept = sensed_after(call, sensed);
     Done {

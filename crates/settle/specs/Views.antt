@@ -1,8 +1,9 @@
 -- What is read and exposed, as values of the code stand for it.
 -- Assumes nothing.
-use Rattle.std.specs.Prelude.{Option, Some, None}
+use Rattle.std.specs.Prelude.{◌≡◌, Option, Some, None}
 use Rattle.time.specs.Raw.{span}
 use Rattle.settle.specs.declared.cells.CellsRef.{CellsRef}
+use Rattle.settle.specs.declared.cells.CellsMut.{CellsMut}
 use Rattle.settle.specs.declared.exposure.Exposure.{Exposure}
 use Rattle.settle.specs.Pages.{Cells}
 use Rattle.settle.specs.Settling.{expose}
@@ -10,6 +11,16 @@ use Rattle.settle.specs.Settling.{expose}
 -- the cells behind the references
 abbrev pub cells_in : CellsRef → Cells
 cells_in cells = record { index = cells.index.now; array = cells.array.now; charges = cells.charges.now }
+
+-- of cells to be changed, at some moment
+abbrev pub cells_at : CellsMut → Cells
+cells_at cells = record { index = cells.index.now; array = cells.array.now; charges = cells.charges.now }
+
+-- The same memory as before, whatever it holds.
+pub record SameCells (old new : CellsMut) : Type 0 where
+  pub same_index : new.index.ghost_name ≡ old.index.ghost_name
+  pub same_array : new.array.ghost_name ≡ old.array.ghost_name
+  pub same_charges : new.charges.ghost_name ≡ old.charges.ghost_name
 
 -- what an exposure leaves, and without one nothing changes
 abbrev pub exposed : Option Exposure → Cells → Cells

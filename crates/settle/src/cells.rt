@@ -1,4 +1,4 @@
-// The cells to be read: the page index, the array and the charge store.
+// The cells to be read or to be changed: the page index, the array and the charge store.
 ghost use Rattle.std.specs.Prelude.{◌≡◌, true, length};
 ghost use Rattle.cell.specs.Cell.{array_bytes, array_cells, pages};
 ghost use Rattle.settle.specs.Pages.{slots_sound};
@@ -46,5 +46,32 @@ impl CellsRef<'_> {
             cells[k] = self.charge(8 * address + k);
         }
         cells
+    }
+}
+
+// The same to be changed. What is known of it holds after each change.
+#[derive(Drop)]
+pub struct CellsMut<'a> {
+    pub index: &'a mut [u16],
+    pub array: &'a mut [u8],
+    pub charges: &'a mut [u64],
+    pub ghost index_long: { length index.now ≡ pages },
+    pub ghost array_long: { length array.now ≡ array_bytes },
+    pub ghost charges_long: { length charges.now ≡ array_cells },
+    pub ghost sound: { slots_sound index.now ≡ true },
+}
+
+impl CellsMut<'_> {
+    ghost use Rattle.settle.specs.Views.{cells_in, cells_at};
+
+    // The same to be read.
+    pub fn seen(&self) -> CellsRef<'_>
+        ensures { cells_in result ≡ cells_at self.now }
+    {
+        CellsRef {
+            index: &*self.index,
+            array: &*self.array,
+            charges: &*self.charges,
+        }
     }
 }

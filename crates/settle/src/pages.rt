@@ -4,7 +4,9 @@ ghost use Rattle.time.specs.Raw.{span};
 ghost use Rattle.cell.specs.Cell.{array_bytes, array_cells, pages, tabulate};
 ghost use Rattle.settle.specs.Pages.{cell_at, opened, slot_for, on_page, slots_sound};
 ghost use Rattle.settle.specs.Settling.{charged};
+ghost use Rattle.settle.specs.Views.{cells_at, SameCells};
 
+use crate::cells::CellsMut;
 use crate::exposure::Exposure;
 use cell::{PAGE, PAGE_CELLS};
 use charging::{bit, charge_slot, first_charge, open_slot};
@@ -24,28 +26,24 @@ pub fn opened(indices: &[u16]) -> usize
 }
 
 // A page takes its slot, the next one if it has none, and its cells are charged there. The answer is the slot.
-pub fn charge_page(
-    indices: &mut [u16],
-    array: &[u8],
-    charges: &mut [u64],
-    page: usize,
-    next: usize,
-    exposure: &Exposure,
-) -> usize
-    requires { (length indices.old ≡ pages) × (slots_sound indices.old ≡ true) × (length array.now ≡ array_bytes) × (length charges.old ≡ array_cells) × (page < pages) × (next ≡ opened indices.old) }
-    ensures { (indices.new ≡ (on_page (charged exposure.now.pulse exposure.now.latch.now (span exposure.now.length)) page (record { index = indices.old; array = array.now; charges = charges.old })).index) × (charges.new ≡ (on_page (charged exposure.now.pulse exposure.now.latch.now (span exposure.now.length)) page (record { index = indices.old; array = array.now; charges = charges.old })).charges) × (result ≡ slot_for indices.old page) }
+pub fn charge_page(cells: &mut CellsMut, page: usize, next: usize, exposure: &Exposure) -> usize
+    requires { (page < pages) × (next ≡ opened cells.old.index.now) }
+    ensures same { SameCells cells.old cells.new }
+    ensures charged { cells_at cells.new ≡ on_page (charged exposure.now.pulse exposure.now.latch.now (span exposure.now.length)) page (cells_at cells.old) }
+    ensures slot { result ≡ slot_for cells.old.index.now page }
 {
     let direction = exposure.pulse.direction;
     let latch = exposure.latch;
     let length = exposure.length;
-    let entry = usize::from(indices[page]);
+    let entry = usize::from(cells.index[page]);
     if entry == 0 {
+        let array = &mut *cells.array;
         let (stored, _) = array.as_chunks::<PAGE>();
-        open_slot(charges, next, &stored[page]);
-        indices[page] = (next + 1) as u16;
-        charge_slot(charges, next, latch, direction, length);
+        open_slot(cells.charges, next, &stored[page]);
+        cells.index[page] = (next + 1) as u16;
+        charge_slot(cells.charges, next, latch, direction, length);
         return next;
     }
-    charge_slot(charges, entry - 1, latch, direction, length);
+    charge_slot(cells.charges, entry - 1, latch, direction, length);
     entry - 1
 }

@@ -2,18 +2,19 @@
 // event word.
 #![tactic(auto)]
 
-ghost use Rattle.std.specs.Prelude.{◌≡◌, true, ◌<◌, ◌≤◌, ◌+◌, ◌*◌, ◌-◌, length};
+ghost use Rattle.std.specs.Prelude.{◌≡◌, ◌<◌, ◌≤◌, ◌+◌, ◌*◌, ◌-◌, length};
 ghost use Rattle.std.proofs.lemmas.List.Edits.{sets};
 ghost use Rattle.time.specs.Raw.{span};
-ghost use Rattle.cell.specs.Cell.{array_bytes, array_cells, page_bytes, page_cells, pages, at, sensed_byte};
+ghost use Rattle.cell.specs.Cell.{array_bytes, page_bytes, page_cells, pages, at, sensed_byte};
 ghost use Rattle.registers.specs.Calls.{ending_number};
-ghost use Rattle.settle.specs.Pages.{slots_sound};
 ghost use Rattle.settle.specs.Settling.{expose, settled_by, spanned, changes, byte_kind, word, Left, range_bytes, range_end};
+ghost use Rattle.settle.specs.Views.{cells_at, SameCells};
 ghost use Rattle.settling.specs.Kinds.{kind_number};
 
 use cell::{PAGE, PAGE_CELLS, Sense};
 use registers::{Ending, Pulse};
 use sensing::limits::Ceilings;
+use settle::cells::CellsMut;
 use settle::exposure::Exposure;
 use settle::pages::{charge_page, opened};
 use time::Time;
@@ -91,70 +92,69 @@ fn store_page(
 
 // A page's bytes become what the cells in its slot sense by the ceilings.
 fn resense_page(
-    array: &mut [u8],
-    charges: &[u64],
+    cells: &mut CellsMut,
     events: &mut [u64],
     ceilings: &Ceilings,
     slot: usize,
     page: usize,
     count: usize,
 ) -> usize
-    requires { (length array.old ≡ array_bytes) × (length charges.now ≡ array_cells) × (slot < pages) × (page < pages) × (count + page_bytes ≤ length events.old) }
-    ensures { (array.new ≡ spanned (page * page_bytes) (page * page_bytes + page_bytes) (λ a. sensed_byte ceilings.now.sense a (λ k. at charges.now (slot * page_cells + (8 * (a - page * page_bytes) + k)))) array.old) × (events.new ≡ sets events.old count (changes 0 array.old array.new)) × (result ≡ count + length (changes 0 array.old array.new)) }
+    requires { (slot < pages) × (page < pages) × (count + page_bytes ≤ length events.old) }
+    ensures same { SameCells cells.old cells.new }
+    ensures index { cells.new.index.now ≡ cells.old.index.now }
+    ensures charges { cells.new.charges.now ≡ cells.old.charges.now }
+    ensures array { cells.new.array.now ≡ spanned (page * page_bytes) (page * page_bytes + page_bytes) (λ a. sensed_byte ceilings.now.sense a (λ k. at cells.old.charges.now (slot * page_cells + (8 * (a - page * page_bytes) + k)))) cells.old.array.now }
+    ensures events { events.new ≡ sets events.old count (changes 0 cells.old.array.now cells.new.array.now) }
+    ensures count { result ≡ count + length (changes 0 cells.old.array.now cells.new.array.now) }
 {
     let mut bytes = [0u8; PAGE];
     let from = slot * PAGE_CELLS;
     let to = from + PAGE_CELLS;
-    ceilings.sense_page(page * PAGE, &charges[from..to], &mut bytes);
-    store_page(array, events, page * PAGE, &bytes, count)
+    let seen = cells.seen();
+    ceilings.sense_page(page * PAGE, &seen.charges[from..to], &mut bytes);
+    store_page(cells.array, events, page * PAGE, &bytes, count)
 }
 
 // An exposure of a pulse's range. The answer is the number of event words given.
-pub fn expose(
-    indices: &mut [u16],
-    array: &mut [u8],
-    charges: &mut [u64],
-    events: &mut [u64],
-    exposure: &Exposure,
-) -> usize
-    requires { (length indices.old ≡ pages) × (slots_sound indices.old ≡ true) × (length array.old ≡ array_bytes) × (length charges.old ≡ array_cells) × (exposure.now.pulse.first + exposure.now.pulse.pages ≤ pages) × (exposure.now.pulse.pages * page_bytes ≤ length events.old) }
-    ensures { Left (expose exposure.now.pulse exposure.now.latch.now (span exposure.now.length) (record { index = indices.old; array = array.old; charges = charges.old })) (changes 0 array.old (expose exposure.now.pulse exposure.now.latch.now (span exposure.now.length) (record { index = indices.old; array = array.old; charges = charges.old })).array) events.old indices.new array.new charges.new events.new result }
+pub fn expose(cells: &mut CellsMut, events: &mut [u64], exposure: &Exposure) -> usize
+    requires { (exposure.now.pulse.first + exposure.now.pulse.pages ≤ pages) × (exposure.now.pulse.pages * page_bytes ≤ length events.old) }
+    ensures same { SameCells cells.old cells.new }
+    ensures left { Left (expose exposure.now.pulse exposure.now.latch.now (span exposure.now.length) (cells_at cells.old)) (changes 0 cells.old.array.now (expose exposure.now.pulse exposure.now.latch.now (span exposure.now.length) (cells_at cells.old)).array) events.old cells.new.index.now cells.new.array.now cells.new.charges.now events.new result }
 {
     let ceilings = Ceilings::of(Sense::Normal);
     let first = usize::from(exposure.pulse.first);
     let number = usize::from(exposure.pulse.pages);
-    let mut next = opened(indices);
+    let mut next = opened(cells.seen().index);
     let mut count: usize = 0;
     for i in 0..number {
         let page = first + i;
-        let slot = charge_page(indices, array, charges, page, next, exposure);
+        let slot = charge_page(cells, page, next, exposure);
         if slot == next {
             next += 1;
         }
-        count = resense_page(array, charges, events, &ceilings, slot, page, count);
+        count = resense_page(cells, events, &ceilings, slot, page, count);
     }
     count
 }
 
 // A settle of index, array and charges. The answer is the number of event words given.
 pub fn settle(
-    indices: &mut [u16],
-    array: &mut [u8],
-    charges: &mut [u64],
+    cells: &mut CellsMut,
     events: &mut [u64],
     pulse: Option<Pulse>,
     latch: &[u8; PAGE],
     since: Time,
     time: Time,
 ) -> usize
-    requires { (length indices.old ≡ pages) × (slots_sound indices.old ≡ true) × (length array.old ≡ array_bytes) × (length charges.old ≡ array_cells) × (range_end pulse ≤ pages) × (range_bytes pulse ≤ length events.old) }
-    ensures { Left (settled_by pulse latch.now since time (record { index = indices.old; array = array.old; charges = charges.old })) (changes 0 array.old (settled_by pulse latch.now since time (record { index = indices.old; array = array.old; charges = charges.old })).array) events.old indices.new array.new charges.new events.new result }
+    requires { (range_end pulse ≤ pages) × (range_bytes pulse ≤ length events.old) }
+    ensures same { SameCells cells.old cells.new }
+    ensures left { Left (settled_by pulse latch.now since time (cells_at cells.old)) (changes 0 cells.old.array.now (settled_by pulse latch.now since time (cells_at cells.old)).array) events.old cells.new.index.now cells.new.array.now cells.new.charges.now events.new result }
 {
     let Some(pulse) = pulse else {
         return 0;
     };
     match Exposure::of(pulse, latch, since, time) {
         None => 0,
-        Some(exposure) => expose(indices, array, charges, events, &exposure),
+        Some(exposure) => expose(cells, events, &exposure),
     }
 }

@@ -1,27 +1,43 @@
 -- `perform::perform_settling` meets its contract: what its parts leave makes up the step, `performs`. Assumes nothing.
-use mathlib.Core.Path.{◌∙◌}
-use Rattle.flash.proofs.Performs.{room-le, index-left, sound-left, array-left, charges-left, end-room, performs}
+use mathlib.Core.Path.{◌≡◌, ap, sym, ◌∙◌}
+use mathlib.Core.List.{List}
+use Prim.Native.Nat.{ℕ}
+use borrow.Author.Rules.{rules}
+use Rattle.time.specs.declared.Time.{Time}
+use Rattle.registers.specs.declared.Registers.{Registers}
+use Rattle.registers.specs.declared.Call.{Call}
+use Rattle.settle.specs.Pages.{Cells}
+use Rattle.settle.specs.Settling.{sensed_by}
+use Rattle.flash.specs.Chip.{Chip, Performed}
+use Rattle.flash.proofs.Performs.{room-le, end-room, performs}
 use Rattle.perform.proofs.perform_settling.Goals as goal
 
 pub settle-changed-requires : goal.settle-changed-requires
 settle-changed-requires c =
-    let p = c.requires in let f = p.0 in (f.index_long, f.slots, f.array_long, f.charges_long, rw c.pulse-pulse.ensures f.pulse_inside, rw c.pulse-pulse.ensures (room-le _ _ p.2))
+    let p = c.requires in (rw c.pulse-pulse.ensures p.0.pulse_inside, rw c.pulse-pulse.ensures (room-le _ _ p.2))
 
 pub end_pulse-count-requires : goal.end_pulse-count-requires
 end_pulse-count-requires c =
-    let p = c.requires in (rw c.pulse-pulse.ensures p.0.pulse_inside, end-room _ _ c.requires.0 _ c.pulse-pulse.ensures c.settle-changed.ensures p.2)
-
-pub invariant_of-cells : goal.invariant_of-cells
-invariant_of-cells c =
-    let f = c.requires.0 in
-    let o = c.pulse-pulse.ensures in
-    let left = c.settle-changed.ensures in
-    record { index_long = index-left _ _ f _ o left; array_long = array-left _ _ f _ o left; charges_long = charges-left _ _ f _ o left; sound = sound-left _ _ f _ o left }
+    let p = c.requires in (rw c.pulse-pulse.ensures p.0.pulse_inside, end-room _ _ c.requires.0 _ c.pulse-pulse.ensures c.settle-changed.ensures.left p.2)
 
 pub settled_answer-value-requires : goal.settled_answer-value-requires
 settled_answer-value-requires c =
     c.requires.1
 
+-- lent memory that is what a step left
+moved : {c : Call} {now since : Time} {k : Chip} {lent : List ℕ} {r : Registers} {sensed index index' array array' charges charges' events : List ℕ} {value count : ℕ}
+    → index ≡ index' → array ≡ array' → charges ≡ charges'
+    → Performed c now k lent (record { registers = r; pulse_since = since; sensed = sensed; indices = index' }) array' charges' events value count
+    → Performed c now k lent (record { registers = r; pulse_since = since; sensed = sensed; indices = index }) array charges events value count
+moved e g h p = rw (e, g, h) p
+
 pub returns : goal.returns
 returns c =
-    performs _ _ c.requires.0 _ c.pulse-pulse.ensures c.settle-changed.ensures _ c.requires.3 _ c.next-next.ensures (c.end_pulse-count.ensures.0 ∙ rw c.pulse.ensures) (c.end_pulse-count.ensures.1 ∙ rw c.pulse.ensures) c.sense-sensed.ensures c.settled_answer-value.ensures.0 c.settled_answer-value.ensures.1 c.sensed_after-kept.ensures
+    let x = c.args in
+    let sensed = c.sense-sensed.ensures ∙ ap (λ (k : Cells). sensed_by x.flash.registers x.now.time k x.flash.sensed) c.seen.ensures in
+    let same = c.settle-changed.ensures.same in
+    let index = sym same.same_index in
+    let array = sym same.same_array in
+    let charges = sym same.same_charges in
+    moved (search rules) (search rules) (search rules)
+    (performs _ _ c.requires.0 _ c.pulse-pulse.ensures c.settle-changed.ensures.left _ c.requires.3 _ c.next-next.ensures (c.end_pulse-count.ensures.0 ∙ rw c.pulse.ensures) (c.end_pulse-count.ensures.1 ∙ rw c.pulse.ensures) sensed c.settled_answer-value.ensures.0 c.settled_answer-value.ensures.1 c.sensed_after-kept.ensures)

@@ -10,6 +10,7 @@ use Rattle.cell.specs.declared.Sense.{Sense}
 use Rattle.cell.specs.Cell.{at, sensed_byte, sensed_page}
 use Rattle.cell.proofs.Maps.{get_or-mapi}
 use Rattle.cell.proofs.Sensed.{sensed_byte-same}
+use Rattle.settle.specs.Pages.{Cells}
 use Rattle.settle.proofs.Place.{spanned-same}
 use Rattle.settling.proofs.resense_page.Goals as goal
 
@@ -27,9 +28,8 @@ page-sensed m address slot charges a h k =
     ∙ ap (λ b. sensed_byte m b (λ k. at (take n from) (8 * j + k))) d
     ∙ sensed_byte-same m a _ _ (λ i b. get_or-take n from (8 * j + i) 0 (omega arith) ∙ get_or-drop (slot * 1024) charges (8 * j + i) 0)
 
-pub returns : goal.returns
-returns c =
+pub returns-clause-array : goal.returns-clause-array
+returns-clause-array c =
     let x = c.args in
-    let e = c.store_page.ensures in
-    let sensed = page-sensed x.ceilings.now.sense (x.page * 128) x.slot x.charges.now in
-    (e.0 ∙ spanned-same (x.page * 128) (x.page * 128 + 128) _ _ x.array.now (λ a h k _. rw c.sense_page.ensures (sensed a h k)), e.1, e.2)
+    let sensed = page-sensed x.ceilings.now.sense (x.page * 128) x.slot x.cells.now.charges.now in
+    c.store_page.ensures.0 ∙ spanned-same (x.page * 128) (x.page * 128 + 128) _ _ x.cells.now.array.now (λ a h k _. rw (c.sense_page.ensures, ap (λ (k : Cells). k.charges) c.seen-seen.ensures) (sensed a h k))
