@@ -5,11 +5,10 @@
 pub mod scanned;
 pub mod state;
 
-ghost use Rattle.std.specs.Prelude.{◌≡◌, ◌+◌, ◌*◌, ◌/◌, ◌^◌, ◌<◌, ◌≤◌, [], length, if◌then◌else◌, nat_le, nat_lt, OnOk, IfOk};
-ghost use Rattle.cell.specs.Cell.{FULL, page_bytes, pages};
-ghost use Rattle.flash.specs.Chip.{no_pages};
+ghost use Rattle.std.specs.Prelude.{◌≡◌, ◌+◌, ◌*◌, ◌/◌, ◌^◌, ◌<◌, ◌≤◌, length, if◌then◌else◌, nat_le, nat_lt, OnOk, IfOk};
+ghost use Rattle.cell.specs.Cell.{FULL, pages};
 ghost use Rattle.layout.specs.Layout.{word};
-ghost use Rattle.refusal.specs.Refusal.{told, Answers};
+ghost use Rattle.refusal.specs.Refusal.{told};
 ghost use Rattle.snapshot.specs.Places.{pages_place, count_in, cells_number, address_number, with_page, pages_number, pages_index, bytes_number, end_number, state_length, state_number, scan_number};
 
 use crate::scanned::Scanned;
