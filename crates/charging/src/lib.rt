@@ -1,7 +1,7 @@
 // What a pulse does to charges: the rule of one cell, a page's first charges, and one page of the charge store.
 #![tactic(auto)]
 
-ghost use Rattle.std.specs.Prelude.{◌≡◌, ◌-◌, ◌*◌, ◌^◌, ◌<◌, ◌≤◌, min, length};
+ghost use Rattle.std.specs.Prelude.{◌≡◌, ◌-◌, ◌*◌, ◌^◌, ◌<◌, min, length};
 ghost use Rattle.cell.specs.Cell.{bit, rate, moved, exposed, first_charge, opened_page, opened_slot, charged_page, charged_slot, page_cells, array_cells, pages};
 ghost use Rattle.time.specs.Raw.{span};
 

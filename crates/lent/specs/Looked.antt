@@ -1,6 +1,6 @@
 -- Looking over lent memory: the number, and the answer where it is 0. Document 01, "Order of checking" and "Cells and sensing".
 -- Assumes nothing.
-use Rattle.std.specs.Prelude.{ℕ, zero, suc, ◌+◌, ◌*◌, ◌≡◌, Bool, false, not, ◌||◌, List, [], ◌∷◌, ◌++◌, eqb, ltb, length}
+use Rattle.std.specs.Prelude.{ℕ, zero, suc, ◌+◌, ◌*◌, Bool, false, not, ◌||◌, List, [], ◌∷◌, ◌++◌, eqb, ltb, length}
 use Rattle.std.proofs.lemmas.List.Edits.{sets}
 use Rattle.time.specs.declared.Time.{Time}
 use Rattle.cell.specs.Cell.{array_bytes}

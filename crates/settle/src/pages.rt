@@ -1,15 +1,15 @@
 // Pages and slots: where a cell's charge stands, and which slot a page takes.
-ghost use Rattle.std.specs.Prelude.{◌≡◌, true, ◌<◌, ◌≤◌, ◌+◌, ◌*◌, length};
+ghost use Rattle.std.specs.Prelude.{◌≡◌, ◌<◌, ◌≤◌, length};
 ghost use Rattle.time.specs.Raw.{span};
-ghost use Rattle.cell.specs.Cell.{array_bytes, array_cells, pages, tabulate};
-ghost use Rattle.settle.specs.Pages.{cell_at, opened, slot_for, on_page, slots_sound};
+ghost use Rattle.cell.specs.Cell.{pages};
+ghost use Rattle.settle.specs.Pages.{opened, slot_for, on_page};
 ghost use Rattle.settle.specs.Settling.{charged};
 ghost use Rattle.settle.specs.Views.{cells_at, SameCells};
 
 use crate::cells::CellsMut;
 use crate::exposure::Exposure;
-use cell::{PAGE, PAGE_CELLS};
-use charging::{bit, charge_slot, first_charge, open_slot};
+use cell::PAGE;
+use charging::{charge_slot, open_slot};
 
 // How many pages are opened, counted as wide as an entry, so that many entries are tested at once.
 pub fn opened(indices: &[u16]) -> usize

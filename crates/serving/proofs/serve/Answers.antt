@@ -1,5 +1,4 @@
 -- `serving::serve` meets its contract, by what a replay shows of the desk. Assumes nothing.
-use mathlib.Core.Path.{sym}
 use native.Mathlib.Omega.{arith}
 use Rattle.serving.proofs.Answered.{done-some, serves}
 use Rattle.serving.proofs.serve.Goals as goal
