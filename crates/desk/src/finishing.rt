@@ -29,15 +29,9 @@ fn files_drafted<R: Files, S: Print>(
         charges: &memory.charges,
     };
     snapshot_drafted(rt, snapshot, says, lent, &mut memory.buffer)?;
-    picture_drafted(
-        rt,
-        picture,
-        says,
-        lent,
-        &mut memory.buffer,
-        time,
-    )
-    .inspect_err(|_| discarded(rt, snapshot))
+    picture_drafted(rt, picture, says, lent, &mut memory.buffer, time).inspect_err(|_| discarded(
+        rt, snapshot,
+    ))
 }
 
 // All of them take their names. Where the first can't, the other's draft is removed.

@@ -63,22 +63,14 @@ pub fn summary(
 }
 
 // The image at a time, in an array of its length.
-fn image_at(
-    image: &mut [u8; FLASH_SIZE],
-    lent: Lent,
-    time: Time,
-) -> Result<(), Refusal>
+fn image_at(image: &mut [u8; FLASH_SIZE], lent: Lent, time: Time) -> Result<(), Refusal>
     ensures { Shows (look_refusal false time (memory_in lent.entry)) (image_at time (chip_in (memory_in lent.entry))) (told result) image.new }
 {
     see_image(lent, time, image)
 }
 
 // The marks of all pages at a time, where the map is asked for.
-fn marks_for(
-    map: bool,
-    lent: Lent,
-    time: Time,
-) -> Result<[u8; PAGES], Refusal>
+fn marks_for(map: bool, lent: Lent, time: Time) -> Result<[u8; PAGES], Refusal>
     ensures { MatchResult result (λ marks. map_text map marks ≡ map_text map (marks_at time (chip_in (memory_in lent.entry)))) (λ refusal. number refusal ≡ look_refusal false time (memory_in lent.entry)) }
 {
     let mut marks = [0u8; PAGES];

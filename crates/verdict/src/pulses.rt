@@ -33,12 +33,7 @@ fn count_word(counts: &mut [u64; BLOCKS], kind: EventKind, word: u64)
 }
 
 // The counts after the words of a kind among the first `count` words.
-fn counted(
-    counts: [u64; BLOCKS],
-    kind: EventKind,
-    events: &[u64],
-    count: usize,
-) -> [u64; BLOCKS]
+fn counted(counts: [u64; BLOCKS], kind: EventKind, events: &[u64], count: usize) -> [u64; BLOCKS]
     ensures { result ≡ counted (kind_number kind) (take count events.now) counts }
 {
     let mut all = counts;

@@ -28,12 +28,7 @@ fn see_pages(lent: Lent, time: Time) -> Result<u64, Refusal>
     Ok(legible_pages(&image, 0, PAGES) as u64)
 }
 
-fn look_at_all(
-    lent: Lent,
-    line: u64,
-    time: Time,
-    out: &mut [u8],
-) -> Result<usize, Refusal>
+fn look_at_all(lent: Lent, line: u64, time: Time, out: &mut [u8]) -> Result<usize, Refusal>
     ensures { Looks line Looking.Whole time (memory_in lent.entry) result out.old out.new }
 {
     let legible = see_pages(lent, time)?;
