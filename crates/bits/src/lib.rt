@@ -49,7 +49,7 @@ pub fn falls(d: u8, old: u8, new: u8) -> bool
     has(old, d) & !has(new, d)
 }
 
-// A flag as its register's bit 7.
+// A flag as its register's bit 7, as the definition has it: a conversion of the bool and a product would be no plainer.
 pub fn flag(b: bool) -> u8
     ensures { result ≡ flag b }
 {

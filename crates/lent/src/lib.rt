@@ -7,7 +7,8 @@ pub mod making;
 pub mod memory;
 pub mod opening;
 
-// The calls of the ledger as a host asks for them, with their arguments but the time: a mode is a number here, and may be none.
+// The calls of the ledger as a host asks for them, with their arguments but the time: a mode is a number here, and may be none. One generic
+// enum for these and `registers::Call` would be no plainer: each definition over a call would name the mode's type.
 #[derive(Clone, Copy, Debug, PartialEq, Eq)]
 pub enum Request {
     WriteRegister(u16, u8),

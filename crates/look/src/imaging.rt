@@ -51,7 +51,8 @@ pub fn peek(held: &Held, address: usize, time: Time) -> u8
     byte_after(&held.cells(), &exposure_at(held, time), address)
 }
 
-// Whether the 128 stored bytes from `start` on all read FF.
+// Whether the 128 stored bytes from `start` on all read FF. Here and below what is written to may be longer, as a host may lend it:
+// so it is a slice with room, and no array.
 fn stored_blank(array: &[u8], start: usize) -> bool
     requires { start + page_bytes ≤ length array.now }
     ensures { result ≡ all_blank page_bytes start array.now }

@@ -78,7 +78,7 @@ pub struct Given<'a> {
     pub stage: Stage<'a>,
 }
 
-// What the arguments ask for. They come one after the other, with a byte 0 after each.
+// What the arguments ask for. They come one after the other, with a byte 0 after each: fixed memory has no list of so many words.
 #[tactic(auto, using(crate::proofs::Lying::ended_lies), unfolding(crate::specs::Options::options_of))]
 pub fn options_of(args: &[u8]) -> Result<Asked<'_>, Trouble<'_>>
     ensures { Answer args.now result }

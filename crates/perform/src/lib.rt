@@ -36,7 +36,8 @@ fn sensed_after(call: Call, sensed: [u8; 4]) -> [u8; 4]
     }
 }
 
-// A call that settles.
+// A call that settles. The state stays apart from the array and the charges: it comes and goes by value, and only these two functions
+// ask that they fit.
 fn perform_settling(
     flash: Flash,
     array: &mut [u8],

@@ -35,6 +35,7 @@ pub fn permit_at<'a>(registers: Registers, time: Time, array: &'a [u8]) -> Optio
     }
 }
 
+// Here and below an address lies in the array that is lent, which is a fact of the two together.
 fn byte_at(array: &[u8], address: usize) -> u8
     requires { address < length array.now }
     ensures { result ≡ at array.now address }

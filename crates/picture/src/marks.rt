@@ -36,7 +36,7 @@ pub fn mark(held: &Held, page: usize, time: Time) -> u8
     b'.'
 }
 
-// The marks of all pages at a time, into `out`, whose bytes past them stay.
+// The marks of all pages at a time, into `out`, whose bytes past them stay: so it is a slice with room, and no array.
 #[tactic(auto, using(crate::proofs::Written::writes))]
 pub fn write_marks(held: &Held, time: Time, out: &mut [u8])
     requires { pages ≤ length out.old }

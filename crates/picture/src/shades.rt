@@ -34,7 +34,7 @@ pub fn shade(charge: u64) -> u8
     low as u8
 }
 
-// The shades of all cells after an exposure, into `out`, whose bytes past them stay.
+// The shades of all cells after an exposure, into `out`, whose bytes past them stay: so it is a slice with room, and no array.
 #[tactic(auto, using(crate::proofs::Written::writes))]
 fn write_exposed(cells: &CellsRef, exposure: &Option<Exposure>, out: &mut [u8])
     requires { array_cells ≤ length out.old }

@@ -35,7 +35,7 @@ fn stops(request: Request, outcome: Result<Answer, Refusal>) -> bool
     }
 }
 
-// One call on the state that is held.
+// One call on the state that is held, which stays apart from what is lent, as `perform` takes it.
 fn call_held(
     flash: &mut Flash,
     array: &mut [u8],

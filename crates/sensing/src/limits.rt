@@ -122,7 +122,7 @@ impl Ceilings {
         self.sense_nibble(address, cells, 0) + 16 * self.sense_nibble(address, cells, 4)
     }
 
-    // The 128 bytes that a page's cells sense; the page begins at `address`.
+    // The 128 bytes that a page's cells sense; the page begins at `address`. The cells are a stretch of the store, so a slice.
     pub fn sense_page(&self, address: usize, cells: &[u64], out: &mut [u8; PAGE])
         requires { (address ≤ array_bytes - page_bytes) × (length cells.now ≡ page_cells) }
         ensures { out.new ≡ sensed_page self.now.sense address cells.now out.old }

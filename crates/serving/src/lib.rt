@@ -42,7 +42,7 @@ fn time_at(calls: &[u64], i: usize) -> Time
     Time(calls[NUMBERS * i + 1], calls[NUMBERS * i + 2])
 }
 
-// The calls from one up to another were made and said nothing.
+// The calls from one up to another were made and said nothing. They are told by their places in the list, as the definition does.
 #[tactic(auto, unfolding(crate::specs::Noting::passed))]
 fn passed(course: Course, calls: &[u64], from: usize, to: usize) -> Course
     requires { (from ≤ to) × (3 * to ≤ length calls.now) }

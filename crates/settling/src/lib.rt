@@ -66,7 +66,8 @@ fn byte_word(address: usize, value: u8) -> u64
     word(EventKind::Byte, address as u16, u16::from(value))
 }
 
-// A page takes its bytes; each change is an event. The answer is the count after.
+// A page takes its bytes; each change is an event. The answer is the count after. Here and below each function asks for room for the words
+// that it may give, and no two for as many.
 fn store_page(
     array: &mut [u8],
     events: &mut [u64],

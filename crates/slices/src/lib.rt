@@ -10,7 +10,7 @@ pub fn first(bytes: &[u8], n: usize) -> &[u8]
     if n <= bytes.len() { &bytes[..n] } else { bytes }
 }
 
-// The bytes from one place up to another, none where there are no such places.
+// The bytes from one place up to another, none where there are no such places: columns of a line that is told of after it was read.
 pub fn part(bytes: &[u8], from: usize, to: usize) -> &[u8] {
     if from <= to {
         if to <= bytes.len() {

@@ -6,6 +6,7 @@ ghost use Rattle.text.specs.Says.{Says};
 
 use crate::Text;
 
+// In capitals, which `char::from_digit` does not give.
 fn digit(d: u64) -> u8
     requires { d < 16 }
     ensures { result ≡ Text·digit d }

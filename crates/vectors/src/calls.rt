@@ -10,6 +10,7 @@ use host::calls::{
 // A count that no call gives, so that one which is not written shows.
 const UNWRITTEN: u64 = 65536;
 
+// A macro, since the eight differ in how many arguments they take: a closure for each would say its call again.
 // The call of that name on the lent memory, at the row's time. What else it is given stands in brackets; its count of event words goes into
 // the first variable after them, and what it reads into the next.
 macro_rules! run {
