@@ -145,7 +145,7 @@ fn check_end(bytes: &[u8], end: usize) -> Result<(), Refusal>
 
 // The bytes of the state that stands at a place: 18 more with a pending sense.
 #[tactic(auto, unfolding(snapshot::specs::Places::state_length))]
-fn state_length(bytes: &[u8], at: usize) -> usize
+pub fn state_length(bytes: &[u8], at: usize) -> usize
     requires { at + 252 ≤ length bytes.now }
     ensures { result ≡ state_length bytes.now at }
 {
@@ -169,7 +169,7 @@ fn check_state(bytes: &[u8], at: usize) -> Result<(), Refusal>
 }
 
 // The count of charge pages.
-fn count_in(bytes: &[u8]) -> usize
+pub fn count_in(bytes: &[u8]) -> usize
     requires { pages_place ≤ length bytes.now }
     ensures { result ≡ count_in bytes.now }
 {

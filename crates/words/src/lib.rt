@@ -47,7 +47,7 @@ fn letters(bytes: &[u8]) -> usize
 
 // The next word from a place on.
 #[tactic(auto, using(crate::proofs::Next::is_word))]
-fn word_at(line: &[u8], at: usize) -> Word
+pub fn word_at(line: &[u8], at: usize) -> Word
     requires { at ≤ length line.now }
     ensures is { result ≡ word_at line.now at }
     ensures after { at ≤ result.from }
