@@ -18,7 +18,7 @@ use Rattle.std.specs.Option.{is_some}
 use Rattle.verdict.specs.Blocks.{pages_touched}
 use Rattle.options.specs.Arguments.{Word, help_place, image_place, restore_place, block_place, from_place, to_place, history_place, places, place_named, wants_word, value_below, fits, said_of, dashed, plain, option, optional, valued, step_at}
 use Rattle.options.specs.Options.{block_in, address_in, pages_asked, range_asked, accepted, run_of, with_history, whole, ended}
-use Rattle.options.specs.Inside.{StagePlaced, AskedLies}
+use Rattle.options.specs.Inside.{StagePlaced, PagesLie}
 use Rattle.options.specs.declared.Asked.{Asked}
 use Rattle.options.specs.declared.Given.{Given}
 use Rattle.options.specs.declared.Stage.{Stage}
@@ -113,7 +113,7 @@ abbrev RangeAskedLies : Result Range Trouble → Type 0
 RangeAskedLies r = IfOk r RangeLies
 
 abbrev ResultLies : Result Asked Trouble → Type 0
-ResultLies r = IfOk r AskedLies
+ResultLies r = IfOk r PagesLie
 
 range-lies : (b f t : Option Word) → RangeAskedLies (range_asked b f t)
 unfolding range_asked

@@ -25,13 +25,13 @@ pub record AllTaken (args : List ℕ) (g : Given) : Type 0 where
   pub is : g ≡ given_by words
 
 -- the pages asked for lie in the array
-abbrev pub AskedLies : Asked → Type 0
-AskedLies Help = Unit {0}
-AskedLies (Run r) = r.first + r.pages ≤ pages
+abbrev pub PagesLie : Asked → Type 0
+PagesLie Help = Unit {0}
+PagesLie (Run r) = r.first + r.pages ≤ pages
 
 -- what the program is told of its arguments: what their words ask for
 pub record Answer (args : List ℕ) (r : Result Asked Trouble) : Type 0 where
   pub words : List Word
   pub all : all_bytes words ≡ words_of args
   pub is : r ≡ options_of words
-  pub array : IfOk r AskedLies
+  pub array : IfOk r PagesLie
