@@ -18,8 +18,10 @@ pub const CELLS: usize = 393216;
 
 pub const PAGES: usize = 384;
 
-// Bytes of a page, as an address has them.
+// Bytes of a page, and of the array, as an address has them.
 pub const PAGE_BYTES: u16 = PAGE as u16;
+
+pub const ARRAY_BYTES: u16 = FLASH_SIZE as u16;
 
 // By which limit a cell is sensed.
 #[derive(Clone, Copy, Debug, PartialEq, Eq)]

@@ -7,14 +7,11 @@ ghost use Rattle.std.specs.Prelude.{◌≡◌, ◌≤◌};
 ghost use Rattle.layout.specs.Layout.{head_known, nothing_clear, placed, legible, in_range, accepted, rows_in};
 
 use crate::slots::slots_sound;
-use cell::{FLASH_SIZE, PAGE_BYTES, PAGES};
+use cell::{ARRAY_BYTES, PAGE_BYTES, PAGES};
 use layout::{ADDRESSES, INDICES, PENDING_INSTANT, RECORD_LEN};
 use rows::get_row;
 use rows::numbers::Number;
 use time::Time;
-
-// The array's end, as an address has it.
-const END: u16 = FLASH_SIZE as u16;
 
 // Each flag, supply, mode and option byte is one.
 #[tactic(auto, unfolding(layout::specs::Layout::head_known))]
@@ -43,7 +40,7 @@ pub fn placed(address: u16, step: u16) -> bool
     requires { 1 ≤ step }
     ensures { result ≡ placed address step }
 {
-    (address % step == 0) & (address < END)
+    (address % step == 0) & (address < ARRAY_BYTES)
 }
 
 // What `validate` does not test itself.

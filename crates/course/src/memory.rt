@@ -1,10 +1,8 @@
 // The memory of a run. It is lent as arrays, so that loops need not keep lengths in mind.
 use cell::{CELLS, FLASH_SIZE};
 pub use history::NUMBERS;
-use layout::RECORD_LEN;
-
-// Event words for the largest range, block 4, and its end.
-pub const EVENT_WORDS: usize = 0x7001;
+use layout::{EVENT_WORDS, RECORD_LEN};
+use lent::memory::LentMut;
 
 // So many calls may wait, each with three numbers: what, seconds, fraction.
 pub const ROOM: usize = 1024;
@@ -40,4 +38,12 @@ pub struct Backlog {
     pub calls: Calls,
     pub numbers: Numbers,
     pub line: Bytes,
+}
+
+// What a run works on: lent memory, its event words, and room for what is said.
+#[derive(Drop)]
+pub struct Bench<'a> {
+    pub memory: LentMut<'a>,
+    pub events: &'a mut [u64],
+    pub out: &'a mut [u8],
 }

@@ -6,9 +6,9 @@ mod finishing;
 
 use crate::finishing::finish;
 use cell::{CELLS, FLASH_SIZE};
-use course::memory::{Array, BUFFER, Buffer, Charges, EVENT_WORDS, Events, Record};
+use course::memory::{Array, BUFFER, Buffer, Charges, Events, Record};
 use course::{Manner, begun};
-use layout::RECORD_LEN;
+use layout::{EVENT_WORDS, RECORD_LEN};
 use lent::memory::{Lent, LentMut};
 use options::{Asked, Options, options_of};
 use session::read_history;

@@ -3,7 +3,7 @@ ghost use Rattle.std.specs.Prelude.{◌≡◌};
 ghost use Rattle.grammar.specs.Grammar.{ended, value_line, write_line, byte_line, data_line, read_line, word_line, oscillator_line, module_line, environment_line, cell_line, look_line};
 
 use crate::{Line, Looking};
-use cell::FLASH_SIZE;
+use cell::ARRAY_BYTES;
 use fields::{
     Fault, address_in, bit_in, byte_in, mode_in, module_in, oscillator_in, register_in, value_in,
 };
@@ -11,9 +11,6 @@ use lent::Request;
 use reason::Reason;
 use time::Time;
 use words::LineWord;
-
-// How many bytes the flash has, as an address.
-const SIZE: u16 = FLASH_SIZE as u16;
 
 // A line that ends with the word w: no word is left over.
 #[tactic(auto, unfolding(crate::specs::Grammar::ended))]
@@ -62,7 +59,7 @@ pub fn data_line(time: Time, w: LineWord) -> Result<Line, Fault>
     ensures { result ≡ data_line time w.entry.line.now w.entry.place }
 {
     let word = w.next();
-    let address = address_in(SIZE, Reason::PastTheEnd, word)?;
+    let address = address_in(ARRAY_BYTES, Reason::PastTheEnd, word)?;
     byte_line(time, address, word)
 }
 
@@ -71,7 +68,7 @@ pub fn read_line(time: Time, w: LineWord) -> Result<Line, Fault>
     ensures { result ≡ read_line time w.entry.line.now w.entry.place }
 {
     let word = w.next();
-    let address = address_in(SIZE, Reason::PastTheEnd, word)?;
+    let address = address_in(ARRAY_BYTES, Reason::PastTheEnd, word)?;
     ended(Line::Call(time, Request::Read8(address)), word)
 }
 
@@ -80,7 +77,7 @@ pub fn word_line(time: Time, w: LineWord) -> Result<Line, Fault>
     ensures { result ≡ word_line time w.entry.line.now w.entry.place }
 {
     let word = w.next();
-    let address = address_in(SIZE - 1, Reason::WordPastTheEnd, word)?;
+    let address = address_in(ARRAY_BYTES - 1, Reason::WordPastTheEnd, word)?;
     ended(Line::Call(time, Request::Read16(address)), word)
 }
 
@@ -133,6 +130,6 @@ pub fn look_line(time: Time, w: LineWord) -> Result<Line, Fault>
     if word.is_empty() {
         return Ok(Line::Look(time, Looking::Whole));
     }
-    let address = address_in(SIZE, Reason::PastTheEnd, word)?;
+    let address = address_in(ARRAY_BYTES, Reason::PastTheEnd, word)?;
     cell_line(time, address, word)
 }

@@ -2,6 +2,9 @@
 // the crates above.
 #![tactic(auto)]
 
+// Event words that a host lends at most: those of the largest range, block 4, and its end.
+pub const EVENT_WORDS: usize = 0x7001;
+
 // Bytes of the record, and where each row begins after the first.
 pub const RECORD_LEN: usize = 1042;
 

@@ -1,10 +1,7 @@
 // The memory that the calls are lent, as a host would lend it.
 use crate::sum::Table;
 use cell::{CELLS, FLASH_SIZE};
-use layout::RECORD_LEN;
-
-// Event words for the largest range, block 4, and its end.
-pub const EVENT_WORDS: usize = 0x7001;
+use layout::{EVENT_WORDS, RECORD_LEN};
 
 // The longest snapshot: every page opened, a sense pending.
 pub const LONGEST: usize = 3195926;
