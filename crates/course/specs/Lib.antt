@@ -6,3 +6,4 @@ pub mod Desk
 pub mod Reader
 pub mod Claim
 pub mod Demand
+pub mod Views
