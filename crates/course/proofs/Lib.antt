@@ -1,2 +1,3 @@
 pub mod Claimed
 pub mod Demanded
+pub mod Named

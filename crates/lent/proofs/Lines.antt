@@ -1,11 +1,12 @@
 -- A list of checks that gives no refusal: the condition of its first line is false, and no later line is given. Checks after others count
--- where none of those is given. Assumes nothing.
+-- where none of those is given. The number that is given is that of a refusal. Assumes nothing.
 use mathlib.Core.Path.{◌≡◌, refl}
 use mathlib.Core.Logic.{◌≢◌}
 use mathlib.Core.Bool.{Bool, true, false, cond}
 use mathlib.Core.List.{List, [], ◌∷◌, ◌++◌}
 use Prim.Native.Nat.{ℕ, suc, ◌≤◌}
 use native.Mathlib.Omega.{arith}
+use Rattle.refusal.specs.Refusal.{number, numbered}
 use Rattle.lent.specs.Memory.{Check, first_given}
 
 pub line : (n : ℕ) (given : Bool) (later : ℕ) → cond given (suc n) later ≡ 0 → (given ≡ false) × (later ≡ 0)
@@ -34,3 +35,17 @@ given-after (x ∷ xs) ys p e = by x.given (given-after xs ys p.1) e
         → cond b x.number (first_given (xs ++ ys)) ≡ first_given ys
     by true later e = absurd (omega (arith, e, p.0))
     by false later e = later e
+
+-- each check has the number of a refusal
+abbrev pub Named : List Check → Type 0
+Named [] = Unit {0}
+Named (c ∷ cs) = (number (numbered c.number) ≡ c.number) × Named cs
+
+pub named-first : (cs : List Check) → Named cs → first_given cs ≢ 0 → number (numbered (first_given cs)) ≡ first_given cs
+named-first [] p h = absurd (h refl)
+named-first (c ∷ cs) p h = by c.given (named-first cs p.1) h
+  where
+    by : (b : Bool) → (first_given cs ≢ 0 → number (numbered (first_given cs)) ≡ first_given cs) → cond b c.number (first_given cs) ≢ 0
+        → number (numbered (cond b c.number (first_given cs))) ≡ cond b c.number (first_given cs)
+    by true later h = p.0
+    by false later h = later h
