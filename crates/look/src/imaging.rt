@@ -4,7 +4,7 @@ ghost use Rattle.std.proofs.lemmas.List.Edits.{sets};
 ghost use Rattle.cell.specs.declared.Sense.TheVariants.{Normal};
 ghost use Rattle.cell.specs.Cell.{array_bytes, page_bytes, pages, at};
 ghost use Rattle.settle.specs.Settling.{covers};
-ghost use Rattle.settle.specs.Views.{cells_in, exposed};
+ghost use Rattle.settle.specs.Views.{cells_in, after_exposure};
 ghost use Rattle.flash.specs.Looking.{all_blank, peek_at, blank_at, image_at};
 ghost use Rattle.flash.specs.Views.{chip_of};
 
@@ -19,7 +19,7 @@ use time::Time;
 // The byte at an address of the exposed pages: its eight cells are charged and sensed.
 fn sensed_after(cells: &CellsRef, exposure: &Exposure, ceilings: &Ceilings, address: usize) -> u8
     requires { (ceilings.now.sense ≡ Normal) × (address < array_bytes) × (covers exposure.now.pulse (address / page_bytes) ≡ true) }
-    ensures { result ≡ at (exposed (Some exposure.now) (cells_in cells.now)).array address }
+    ensures { result ≡ at (after_exposure (Some exposure.now) (cells_in cells.now)).array address }
 {
     let mut charges = cells.of_byte(address);
     for k in 0..8 {
@@ -31,7 +31,7 @@ fn sensed_after(cells: &CellsRef, exposure: &Exposure, ceilings: &Ceilings, addr
 // The byte at an address after an exposure: sensed where it covers the page, else the stored one.
 fn byte_after(cells: &CellsRef, exposure: &Option<Exposure>, address: usize) -> u8
     requires { address < array_bytes }
-    ensures { result ≡ at (exposed exposure.now (cells_in cells.now)).array address }
+    ensures { result ≡ at (after_exposure exposure.now (cells_in cells.now)).array address }
 {
     let Some(exposure) = exposure else {
         return cells.array[address];
@@ -69,7 +69,7 @@ fn stored_blank(array: &[u8], start: usize) -> bool
 // Whether a page that an exposure covers is blank after it.
 fn sensed_blank(cells: &CellsRef, exposure: &Exposure, page: usize) -> bool
     requires { (page < pages) × (covers exposure.now.pulse page ≡ true) }
-    ensures { result ≡ all_blank page_bytes (page * page_bytes) (exposed (Some exposure.now) (cells_in cells.now)).array }
+    ensures { result ≡ all_blank page_bytes (page * page_bytes) (after_exposure (Some exposure.now) (cells_in cells.now)).array }
 {
     let ceilings = Ceilings::of(Sense::Normal);
     let start = page * PAGE;
@@ -85,7 +85,7 @@ fn sensed_blank(cells: &CellsRef, exposure: &Exposure, page: usize) -> bool
 // Whether a page is blank after an exposure.
 fn blank_after(cells: &CellsRef, exposure: &Option<Exposure>, page: usize) -> bool
     requires { page < pages }
-    ensures { result ≡ all_blank page_bytes (page * page_bytes) (exposed exposure.now (cells_in cells.now)).array }
+    ensures { result ≡ all_blank page_bytes (page * page_bytes) (after_exposure exposure.now (cells_in cells.now)).array }
 {
     let start = page * PAGE;
     let Some(exposure) = exposure else {
@@ -123,7 +123,7 @@ fn write_sensed(
     out: &mut [u8],
 )
     requires { (ceilings.now.sense ≡ Normal) × (page < pages) × (covers exposure.now.pulse page ≡ true) × (array_bytes ≤ length out.old) }
-    ensures { out.new ≡ sets out.old (page * page_bytes) (take page_bytes (drop (page * page_bytes) (exposed (Some exposure.now) (cells_in cells.now)).array)) }
+    ensures { out.new ≡ sets out.old (page * page_bytes) (take page_bytes (drop (page * page_bytes) (after_exposure (Some exposure.now) (cells_in cells.now)).array)) }
 {
     let start = page * PAGE;
     for i in 0..PAGE {
@@ -135,7 +135,7 @@ fn write_sensed(
 // The bytes after an exposure, into `out`: a page that it does not cover is copied.
 fn write_pages(cells: &CellsRef, exposure: &Exposure, out: &mut [u8])
     requires { array_bytes ≤ length out.old }
-    ensures { out.new ≡ sets out.old 0 (exposed (Some exposure.now) (cells_in cells.now)).array }
+    ensures { out.new ≡ sets out.old 0 (after_exposure (Some exposure.now) (cells_in cells.now)).array }
 {
     let ceilings = Ceilings::of(Sense::Normal);
     for page in 0..PAGES {
@@ -151,7 +151,7 @@ fn write_pages(cells: &CellsRef, exposure: &Exposure, out: &mut [u8])
 // The image after an exposure, into `out`.
 fn write_image(cells: &CellsRef, exposure: &Option<Exposure>, out: &mut [u8])
     requires { array_bytes ≤ length out.old }
-    ensures { out.new ≡ sets out.old 0 (exposed exposure.now (cells_in cells.now)).array }
+    ensures { out.new ≡ sets out.old 0 (after_exposure exposure.now (cells_in cells.now)).array }
 {
     let Some(exposure) = exposure else {
         write_stored(cells.array, 0, FLASH_SIZE, out);

@@ -5,7 +5,7 @@ ghost use Rattle.time.specs.Raw.{span};
 ghost use Rattle.cell.specs.Cell.{array_cells};
 ghost use Rattle.settle.specs.Pages.{cell_at};
 ghost use Rattle.settle.specs.Settling.{charged};
-ghost use Rattle.settle.specs.Views.{cells_in, exposed};
+ghost use Rattle.settle.specs.Views.{cells_in, after_exposure};
 ghost use Rattle.flash.specs.Chip.{cells, settled_at};
 ghost use Rattle.flash.specs.Looking.{charge_at};
 ghost use Rattle.flash.specs.Views.{chip_of};
@@ -19,7 +19,7 @@ use time::Time;
 
 // What a look at a time exposes.
 pub fn exposure_at<'a>(held: &'a Held<'_>, time: Time) -> Option<Exposure<'a>>
-    ensures { settled_at time (chip_of held.now) ≡ exposed result (cells (chip_of held.now)) }
+    ensures { settled_at time (chip_of held.now) ≡ after_exposure result (cells (chip_of held.now)) }
 {
     let registers = &held.flash.registers;
     Exposure::at(
@@ -42,7 +42,7 @@ pub fn charged(exposure: &Exposure, i: usize, charge: u64) -> u64
 // The charge of the cell i after an exposure.
 pub fn charge_after(cells: &CellsRef, exposure: &Option<Exposure>, i: usize) -> u64
     requires { i < array_cells }
-    ensures { result ≡ cell_at (exposed exposure.now (cells_in cells.now)) i }
+    ensures { result ≡ cell_at (after_exposure exposure.now (cells_in cells.now)) i }
 {
     let charge = cells.charge(i);
     let Some(exposure) = exposure else {

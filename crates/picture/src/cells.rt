@@ -2,7 +2,7 @@
 ghost use Rattle.std.specs.Prelude.{◌≡◌, ◌*◌, ◌<◌};
 ghost use Rattle.cell.specs.Cell.{page_cells, pages};
 ghost use Rattle.settle.specs.Pages.{cell_at};
-ghost use Rattle.settle.specs.Views.{cells_in, exposed};
+ghost use Rattle.settle.specs.Views.{cells_in, after_exposure};
 ghost use Rattle.picture.specs.Marks.{holds_charge};
 
 use cell::PAGE_CELLS;
@@ -14,7 +14,7 @@ use settle::exposure::Exposure;
 #[tactic(auto, using(crate::proofs::Held::turns))]
 pub fn holds_charge(cells: &CellsRef, exposure: &Option<Exposure>, page: usize) -> bool
     requires { page < pages }
-    ensures { result ≡ holds_charge (cell_at (exposed exposure.now (cells_in cells.now))) page_cells (page * page_cells) }
+    ensures { result ≡ holds_charge (cell_at (after_exposure exposure.now (cells_in cells.now))) page_cells (page * page_cells) }
 {
     let start = page * PAGE_CELLS;
     for i in 0..PAGE_CELLS {

@@ -2,7 +2,7 @@
 ghost use Rattle.std.specs.Prelude.{◌≡◌, ◌≤◌, length};
 ghost use Rattle.cell.specs.Cell.{array_cells};
 ghost use Rattle.settle.specs.Pages.{cell_at};
-ghost use Rattle.settle.specs.Views.{cells_in, exposed};
+ghost use Rattle.settle.specs.Views.{cells_in, after_exposure};
 ghost use Rattle.flash.specs.Views.{chip_of};
 ghost use Rattle.picture.specs.Outputs.{written};
 ghost use Rattle.picture.specs.Shades.{shade_of, shade_at};
@@ -38,7 +38,7 @@ pub fn shade(charge: u64) -> u8
 #[tactic(auto, using(crate::proofs::Written::writes))]
 fn write_exposed(cells: &CellsRef, exposure: &Option<Exposure>, out: &mut [u8])
     requires { array_cells ≤ length out.old }
-    ensures { out.new ≡ written (λ i. shade_of (cell_at (exposed exposure.now (cells_in cells.now)) i)) array_cells out.old }
+    ensures { out.new ≡ written (λ i. shade_of (cell_at (after_exposure exposure.now (cells_in cells.now)) i)) array_cells out.old }
 {
     for i in 0..CELLS {
         out[i] = shade(charge_after(cells, exposure, i));

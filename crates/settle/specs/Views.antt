@@ -23,6 +23,6 @@ pub record SameCells (old new : CellsMut) : Type 0 where
   pub same_charges : new.charges.ghost_name ≡ old.charges.ghost_name
 
 -- what an exposure leaves, and without one nothing changes
-abbrev pub exposed : Option Exposure → Cells → Cells
-exposed None c = c
-exposed (Some e) c = expose e.pulse e.latch.now (span e.length) c
+abbrev pub after_exposure : Option Exposure → Cells → Cells
+after_exposure None c = c
+after_exposure (Some e) c = expose e.pulse e.latch.now (span e.length) c

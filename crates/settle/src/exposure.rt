@@ -18,21 +18,19 @@ pub struct Exposure<'a> {
 impl Exposure<'_> {
     ghost use Rattle.std.specs.Prelude.{◌≡◌, Some, IfSome};
     ghost use Rattle.settle.specs.Pages.{Cells};
-    ghost use Rattle.settle.specs.Settling.{covers, settled_by};
-    ghost use Rattle.settle.specs.Views.{exposed};
+    ghost use Rattle.settle.specs.Settling.{covers, expose, settled_by};
+    ghost use Rattle.settle.specs.Views.{after_exposure};
 
-    // The exposure of a pulse at a time, from a last settling on, and none where nothing changes.
-    pub fn of<'a>(
+    // The exposure of a pulse for a length of time, and none for a length of 0, where nothing changes.
+    #[tactic(auto, unfolding(crate::specs::Settling::expose))]
+    pub fn lasting<'a>(
         pulse: Pulse,
         latch: &'a [u8; PAGE],
-        since: Time,
-        time: Time,
+        length: Duration,
     ) -> Option<Exposure<'a>>
-        ensures settles { (c : Cells) → settled_by (Some pulse) latch.now since time c ≡ exposed result c }
+        ensures leaves { (c : Cells) → expose pulse latch.now (span length) c ≡ after_exposure result c }
         ensures same_pulse { IfSome result (λ exposure. exposure.pulse ≡ pulse) }
     {
-        let ready = pulse.ready;
-        let length = time.since(since.max(ready));
         if length.is_zero() {
             return None;
         }
@@ -43,6 +41,21 @@ impl Exposure<'_> {
         })
     }
 
+    // The exposure of a pulse at a time, from a last settling on.
+    pub fn of<'a>(
+        pulse: Pulse,
+        latch: &'a [u8; PAGE],
+        since: Time,
+        time: Time,
+    ) -> Option<Exposure<'a>>
+        ensures settles { (c : Cells) → settled_by (Some pulse) latch.now since time c ≡ after_exposure result c }
+        ensures same_pulse { IfSome result (λ exposure. exposure.pulse ≡ pulse) }
+    {
+        let ready = pulse.ready;
+        let length = time.since(since.max(ready));
+        Exposure::lasting(pulse, latch, length)
+    }
+
     // The exposure of a settle at a time, of the pulse that is open.
     pub fn at<'a>(
         pulse: Option<Pulse>,
@@ -50,7 +63,8 @@ impl Exposure<'_> {
         since: Time,
         time: Time,
     ) -> Option<Exposure<'a>>
-        ensures { (c : Cells) → settled_by pulse latch.now since time c ≡ exposed result c }
+        ensures settles { (c : Cells) → settled_by pulse latch.now since time c ≡ after_exposure result c }
+        ensures same_pulse { IfSome result (λ exposure. pulse ≡ Some exposure.pulse) }
     {
         Exposure::of(pulse?, latch, since, time)
     }

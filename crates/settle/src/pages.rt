@@ -7,9 +7,10 @@ ghost use Rattle.settle.specs.Settling.{charged};
 ghost use Rattle.settle.specs.Views.{cells_at, SameCells};
 
 use crate::cells::CellsMut;
-use crate::exposure::Exposure;
 use cell::PAGE;
 use charging::{charge_slot, open_slot};
+use registers::Pulse;
+use time::Duration;
 
 // How many pages are opened, counted as wide as an entry, so that many entries are tested at once.
 pub fn opened(indices: &[u16]) -> usize
@@ -26,15 +27,20 @@ pub fn opened(indices: &[u16]) -> usize
 }
 
 // A page takes its slot, the next one if it has none, and its cells are charged there. The answer is the slot.
-pub fn charge_page(cells: &mut CellsMut, page: usize, next: usize, exposure: &Exposure) -> usize
+pub fn charge_page(
+    cells: &mut CellsMut,
+    page: usize,
+    next: usize,
+    pulse: Pulse,
+    latch: &[u8; PAGE],
+    length: Duration,
+) -> usize
     requires { (page < pages) × (next ≡ opened cells.old.index.now) }
     ensures same { SameCells cells.old cells.new }
-    ensures charged { cells_at cells.new ≡ on_page (charged exposure.now.pulse exposure.now.latch.now (span exposure.now.length)) page (cells_at cells.old) }
+    ensures charged { cells_at cells.new ≡ on_page (charged pulse latch.now (span length)) page (cells_at cells.old) }
     ensures slot { result ≡ slot_for cells.old.index.now page }
 {
-    let direction = exposure.pulse.direction;
-    let latch = exposure.latch;
-    let length = exposure.length;
+    let direction = pulse.direction;
     let entry = usize::from(cells.index[page]);
     if entry == 0 {
         let array = &mut *cells.array;

@@ -2,13 +2,12 @@
 // event word.
 #![tactic(auto)]
 
-ghost use Rattle.std.specs.Prelude.{◌≡◌, ◌<◌, ◌≤◌, ◌+◌, ◌*◌, ◌-◌, length};
+ghost use Rattle.std.specs.Prelude.{◌≡◌, ◌<◌, ◌≤◌, ◌+◌, ◌*◌, ◌-◌, IfSome, length};
 ghost use Rattle.std.proofs.lemmas.List.Edits.{sets};
-ghost use Rattle.time.specs.Raw.{span};
 ghost use Rattle.cell.specs.Cell.{array_bytes, page_bytes, page_cells, pages, at, sensed_byte};
 ghost use Rattle.registers.specs.Calls.{ending_number};
-ghost use Rattle.settle.specs.Settling.{expose, settled_by, spanned, changes, byte_kind, word, Left, range_bytes, range_end};
-ghost use Rattle.settle.specs.Views.{cells_at, SameCells};
+ghost use Rattle.settle.specs.Settling.{settled_by, spanned, changes, byte_kind, word, Left, range_bytes, range_end};
+ghost use Rattle.settle.specs.Views.{after_exposure, cells_at, SameCells};
 ghost use Rattle.settling.specs.Kinds.{kind_number};
 
 use cell::{PAGE, PAGE_CELLS, Sense};
@@ -116,20 +115,24 @@ fn resense_page(
     store_page(cells.array, events, page * PAGE, &bytes, count)
 }
 
-// An exposure of a pulse's range. The answer is the number of event words given.
-pub fn expose(cells: &mut CellsMut, events: &mut [u64], exposure: &Exposure) -> usize
-    requires { (exposure.now.pulse.first + exposure.now.pulse.pages ≤ pages) × (exposure.now.pulse.pages * page_bytes ≤ length events.old) }
+// An exposure of a pulse's range; without one nothing changes. The answer is the number of event words given.
+pub fn expose(cells: &mut CellsMut, events: &mut [u64], exposure: &Option<Exposure>) -> usize
+    requires { IfSome exposure.now (λ e. (e.pulse.first + e.pulse.pages ≤ pages) × (e.pulse.pages * page_bytes ≤ length events.old)) }
     ensures same { SameCells cells.old cells.new }
-    ensures left { Left (expose exposure.now.pulse exposure.now.latch.now (span exposure.now.length) (cells_at cells.old)) (changes 0 cells.old.array.now (expose exposure.now.pulse exposure.now.latch.now (span exposure.now.length) (cells_at cells.old)).array) events.old cells.new.index.now cells.new.array.now cells.new.charges.now events.new result }
+    ensures left { Left (after_exposure exposure.now (cells_at cells.old)) (changes 0 cells.old.array.now (after_exposure exposure.now (cells_at cells.old)).array) events.old cells.new.index.now cells.new.array.now cells.new.charges.now events.new result }
 {
+    let Some(exposure) = exposure else {
+        return 0;
+    };
     let ceilings = Ceilings::of(Sense::Normal);
-    let first = usize::from(exposure.pulse.first);
-    let number = usize::from(exposure.pulse.pages);
+    let pulse = exposure.pulse;
+    let first = usize::from(pulse.first);
+    let number = usize::from(pulse.pages);
     let mut next = opened(cells.seen().index);
     let mut count: usize = 0;
     for i in 0..number {
         let page = first + i;
-        let slot = charge_page(cells, page, next, exposure);
+        let slot = charge_page(cells, page, next, pulse, exposure.latch, exposure.length);
         if slot == next {
             next += 1;
         }
@@ -151,11 +154,5 @@ pub fn settle(
     ensures same { SameCells cells.old cells.new }
     ensures left { Left (settled_by pulse latch.now since time (cells_at cells.old)) (changes 0 cells.old.array.now (settled_by pulse latch.now since time (cells_at cells.old)).array) events.old cells.new.index.now cells.new.array.now cells.new.charges.now events.new result }
 {
-    let Some(pulse) = pulse else {
-        return 0;
-    };
-    match Exposure::of(pulse, latch, since, time) {
-        None => 0,
-        Some(exposure) => expose(cells, events, &exposure),
-    }
+    expose(cells, events, &Exposure::at(pulse, latch, since, time))
 }

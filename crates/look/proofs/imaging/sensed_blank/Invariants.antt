@@ -3,10 +3,10 @@
 use mathlib.Core.Path.{◌≡◌}
 use Prim.Native.Nat.{◌+◌, ◌-◌, ◌*◌}
 use Rattle.std.specs.Prelude.{Some}
-use Rattle.settle.specs.Views.{cells_in, exposed}
+use Rattle.settle.specs.Views.{cells_in, after_exposure}
 use Rattle.flash.specs.Looking.{all_blank}
 use Rattle.look.proofs.imaging.sensed_blank.Given as goal
 
 abbrev pub invariant-loop-i : goal.invariant-loop-i
 invariant-loop-i l =
-    all_blank 128 (l.page * 128) (exposed (Some l.exposure) (cells_in l.cells)).array ≡ all_blank (128 - l.i) (l.page * 128 + l.i) (exposed (Some l.exposure) (cells_in l.cells)).array
+    all_blank 128 (l.page * 128) (after_exposure (Some l.exposure) (cells_in l.cells)).array ≡ all_blank (128 - l.i) (l.page * 128 + l.i) (after_exposure (Some l.exposure) (cells_in l.cells)).array

@@ -5,8 +5,8 @@ use Prim.Native.Nat.{◌*◌}
 use lib.ListN.{take}
 use lib.Seq.{sets}
 use Rattle.std.specs.Prelude.{Some}
-use Rattle.settle.specs.Views.{cells_in, exposed}
+use Rattle.settle.specs.Views.{cells_in, after_exposure}
 use Rattle.look.proofs.imaging.write_pages.Given as goal
 
 abbrev pub invariant-loop-page : goal.invariant-loop-page
-invariant-loop-page l = l.out ≡ sets l.initial.out 0 (take (l.page * 128) (exposed (Some l.exposure) (cells_in l.cells)).array)
+invariant-loop-page l = l.out ≡ sets l.initial.out 0 (take (l.page * 128) (after_exposure (Some l.exposure) (cells_in l.cells)).array)

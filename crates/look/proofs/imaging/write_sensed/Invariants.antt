@@ -5,9 +5,9 @@ use Prim.Native.Nat.{◌*◌}
 use lib.ListN.{take, drop}
 use lib.Seq.{sets}
 use Rattle.std.specs.Prelude.{Some}
-use Rattle.settle.specs.Views.{cells_in, exposed}
+use Rattle.settle.specs.Views.{cells_in, after_exposure}
 use Rattle.look.proofs.imaging.write_sensed.Given as goal
 
 abbrev pub invariant-loop-i : goal.invariant-loop-i
 invariant-loop-i l =
-    l.out ≡ sets l.initial.out (l.page * 128) (take l.i (drop (l.page * 128) (exposed (Some l.exposure) (cells_in l.cells)).array))
+    l.out ≡ sets l.initial.out (l.page * 128) (take l.i (drop (l.page * 128) (after_exposure (Some l.exposure) (cells_in l.cells)).array))

@@ -92,8 +92,8 @@ returns-then-entry-eq0-clause-charged c =
     let k = cells_at x.cells.now in
     let own = λ (i : ℕ) (h : i < 128). ap (λ (xs : List (List ℕ)). at (get_or xs x.page []) i) c.as_chunks.ensures.front ∙ stored _ x.page x.cells.now.array.now (omega (arith, x.cells.now.array_long)) i h in
     let new : at x.cells.now.index.now x.page ≡ 0 = omega (arith, c.from-entry.ensures, c.if-entry-eq0.true) in
-    let f = charged x.exposure.now.pulse x.exposure.now.latch.now (span x.exposure.now.length) in
-    let charges = page-opened x.exposure.now.pulse x.exposure.now.latch.now (span x.exposure.now.length) k x.page _ new own in
+    let f = charged x.pulse x.latch.now (span x.length) in
+    let charges = page-opened x.pulse x.latch.now (span x.length) k x.page _ new own in
     let slot : x.next + 1 ≡ suc (opened x.cells.now.index.now) = omega (arith, c.requires.1) in
     cells-same (on_page f x.page k)
     (ap (set x.cells.now.index.now x.page) slot ∙ sym (page-next f k x.page new))
@@ -105,9 +105,9 @@ returns-clause-charged c =
     let x = c.args in
     let k = cells_at x.cells.now in
     let s = c.from-entry.result - 1 in
-    let f = charged x.exposure.now.pulse x.exposure.now.latch.now (span x.exposure.now.length) in
+    let f = charged x.pulse x.latch.now (span x.length) in
     let old : at x.cells.now.index.now x.page ≡ suc s = omega (arith, c.from-entry.ensures, c.if-entry-eq0.false) in
     cells-same (on_page f x.page k)
     (sym (page-kept f k x.page s old))
     (sym (page-array f k x.page))
-    (rw c.charge_slot-2.ensures (sym (page-charged x.exposure.now.pulse x.exposure.now.latch.now (span x.exposure.now.length) k x.page s old)))
+    (rw c.charge_slot-2.ensures (sym (page-charged x.pulse x.latch.now (span x.length) k x.page s old)))

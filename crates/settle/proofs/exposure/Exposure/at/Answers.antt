@@ -2,9 +2,9 @@
 use Rattle.settle.specs.Settling.{settled_by}
 use Rattle.settle.proofs.exposure.Exposure.at.Goals as goal
 
-pub returns-in_err-pulse : goal.returns-in_err-pulse
+pub returns-in_err-pulse-clause-settles : goal.returns-in_err-pulse-clause-settles
 unfolding settled_by
-returns-in_err-pulse c = λ k. rw (c.in_err-pulse.was, c.from_residual.ensures)
+returns-in_err-pulse-clause-settles c = λ k. rw (c.in_err-pulse.was, c.from_residual.ensures)
 
-pub returns : goal.returns
-returns c = λ k. rw c.in_ok-pulse.was (c.of.ensures.settles k)
+pub returns-clause-settles : goal.returns-clause-settles
+returns-clause-settles c = λ k. rw c.in_ok-pulse.was (c.of.ensures.settles k)
