@@ -38,7 +38,7 @@ fn take(snapshot: &Scanned, memory: &mut LentMut, time: Time) -> Result<(), Refu
         return Err(Refusal::Invalid);
     }
     copy(&snapshot.bytes[0..FLASH_SIZE], memory.array);
-    load_pages(snapshot, memory.charges);
+    load_pages(snapshot.bytes, snapshot.count(), memory.charges);
     write(memory.record, flash);
     Ok(())
 }

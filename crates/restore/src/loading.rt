@@ -1,8 +1,8 @@
 // The values that stand in a snapshot, by their places.
 ghost use Rattle.std.specs.Prelude.{◌≡◌, ◌+◌, ◌≤◌, length};
 ghost use Rattle.std.proofs.lemmas.List.Edits.{sets};
-ghost use Rattle.cell.specs.Cell.{array_cells};
-ghost use Rattle.snapshot.specs.Places.{pages_place, count_in, pages_cells, time_at, pending_at, registers_at, flash_at};
+ghost use Rattle.cell.specs.Cell.{array_cells, pages};
+ghost use Rattle.snapshot.specs.Places.{page_at, pages_place, pages_cells, time_at, pending_at, registers_at, flash_at};
 
 use cell::{PAGE, PAGE_CELLS, PAGES};
 use coding::state::{mode_of, supply_of};
@@ -11,7 +11,6 @@ use flash::Flash;
 use registers::Registers;
 use rows::get_row;
 use rows::numbers::Number;
-use scan::scanned::Scanned;
 use scan::state::StateAt;
 use snapshot::page_at;
 use time::Time;
@@ -88,14 +87,15 @@ pub fn flash_at(state: StateAt, indices: [u16; PAGES]) -> Flash
     }
 }
 
-// The charges of a snapshot's pages go to their slots; the other slots keep their numbers.
-pub fn load_pages(snapshot: &Scanned, charges: &mut [u64])
-    requires { length charges.old ≡ array_cells }
-    ensures { charges.new ≡ sets charges.old 0 (pages_cells (count_in snapshot.now.bytes.now) snapshot.now.bytes.now pages_place) }
+// The charges of so many pages go to their slots; the other slots keep their numbers. It promises so for any bytes in which the pages stand,
+// so it asks for lengths and for no snapshot whose fields are good.
+pub fn load_pages(bytes: &[u8], count: usize, charges: &mut [u64])
+    requires { (count ≤ pages) × (page_at count ≤ length bytes.now) × (length charges.old ≡ array_cells) }
+    ensures { charges.new ≡ sets charges.old 0 (pages_cells count bytes.now pages_place) }
 {
-    for slot in 0..snapshot.count() {
+    for slot in 0..count {
         let from = slot * PAGE_CELLS;
         let to = from + PAGE_CELLS;
-        get_row(snapshot.bytes, page_at(slot) + 2, &mut charges[from..to]);
+        get_row(bytes, page_at(slot) + 2, &mut charges[from..to]);
     }
 }

@@ -27,5 +27,5 @@ returns c =
     let t =
     taken _ _ _ _ _ _ state.same state.place c.end.ensures c.args.snapshot.now.indexed c.if-end-snapshot.false _
     c.flash_at-flash.ensures _ c.valid.ensures c.if-not-valid.false (memory_at c.args.memory.now) _ _ _ c.write.ensures
-    c.copy.ensures c.load_pages.ensures in
+    c.copy.ensures (rw c.count.ensures.count at c.load_pages.ensures) in
     record { same = search rules; judged = t.0; left = t.1 }

@@ -5,15 +5,14 @@ use mathlib.Core.Path.{◌≡◌, refl, ap, sym, ◌∙◌}
 use lib.ListN.{length}
 use lib.Seq.{length-sets}
 use borrow.Rule.Slice.PartMut.{mid_len}
-use Rattle.snapshot.specs.Places.{count_in, pages_cells, page_at}
-use Rattle.snapshot.proofs.Places.{scan-room}
+use Rattle.snapshot.specs.Places.{pages_cells, page_at}
 use Rattle.restore.proofs.Loaded.{load-turn}
 use native.Mathlib.Omega.{arith}
 use Rattle.restore.proofs.loading.load_pages.Goals as goal
 
 pub loop-slot-init : goal.loop-slot-init
 unfolding pages_cells
-loop-slot-init c = (c.requires, refl)
+loop-slot-init c = (c.requires.2, refl)
 
 pub overflow_add-page_at : goal.overflow_add-page_at
 unfolding page_at
@@ -24,22 +23,22 @@ unfolding page_at
 get_row-requires c =
     let l = c.loop-slot in
     let a = l.slot * 1024 in
-    omega (arith, mid_len a (a + 1024) l.charges (omega arith), c.page_at.ensures, c.count-slot-end.ensures.count, (scan-room _ c.args.snapshot.now.good).2)
+    omega (arith, mid_len a (a + 1024) l.charges (omega arith), c.page_at.ensures, c.requires.1)
 
 pub loop-slot-preserved : goal.loop-slot-preserved
 loop-slot-preserved c =
     let l = c.loop-slot in
     let x = c.args in
     let e =
-    load-turn l.slot x.snapshot.now.bytes.now x.charges.now l.charges _ _ l.invariant.1 (omega arith)
+    load-turn l.slot x.bytes.now x.charges.now l.charges _ _ l.invariant.1 (omega arith)
     c.page_at.ensures c.get_row.ensures in
-    (ap length e ∙ simp length-sets c.requires, e)
+    (ap length e ∙ simp length-sets c.requires.2, e)
 
 pub shape_of-charges : goal.shape_of-charges
-shape_of-charges c = c.loop-slot.invariant.0 ∙ sym c.requires
+shape_of-charges c = c.loop-slot.invariant.0 ∙ sym c.requires.2
 
 pub returns : goal.returns
 returns c =
     let l = c.loop-slot in
-    let e : l.slot ≡ count_in c.args.snapshot.now.bytes.now = omega (arith, c.count-slot-end.ensures.count) in
+    let e : l.slot ≡ c.args.count = omega arith in
     l.invariant.1 ∙ rw e

@@ -9,4 +9,4 @@ use Rattle.restore.proofs.loading.load_pages.Given as goal
 
 abbrev pub invariant-loop-slot : goal.invariant-loop-slot
 invariant-loop-slot l =
-    (length l.charges ≡ array_cells) × (l.charges ≡ sets l.initial.charges 0 (pages_cells l.slot l.snapshot.bytes.now pages_place))
+    (length l.charges ≡ array_cells) × (l.charges ≡ sets l.initial.charges 0 (pages_cells l.slot l.bytes pages_place))
