@@ -1,26 +1,28 @@
--- A blank page, one byte after the other; and the stores of a loop, a byte or a page more at a time. Assumes nothing.
-use mathlib.Core.Path.{◌≡◌, ◌∙◌}
-use mathlib.Core.Bool.{◌&&◌}
+-- A blank page as a list; and the stores of a loop, a byte or a page more at a time. Assumes nothing.
+use mathlib.Core.Path.{◌≡◌, refl, ◌∙◌}
 use mathlib.Core.List.{List, [], ◌∷◌}
-use Prim.Native.Nat.{ℕ, suc, ◌+◌, ◌-◌, ◌<◌, ◌≤◌}
+use Prim.Native.Nat.{ℕ, zero, suc, ◌+◌, ◌<◌, ◌≤◌}
 use native.Mathlib.Numerals.{add-one}
 use native.Mathlib.Omega.{arith}
 use lib.ListN.{length, set, take, drop, length-take, length-drop}
-use lib.Seq.{sets, take-suc, take-add, take-length, get_or-drop}
+use lib.Seq.{sets, take-suc, take-add, take-length, get_or-drop, drop-cons}
 use lib.Dec.{eqb}
+use Rattle.std.specs.List.{list_all, range_with_len}
 use Rattle.cell.specs.Cell.{at}
 use Rattle.settle.proofs.Stored.{sets-append}
 use Rattle.flash.specs.Looking.{all_blank}
 
--- ---- a blank page, one byte after the other
+-- ---- n bytes from address a on, as a list of them and as a list of their addresses
 
-pub blank_turn : (start i : ℕ) (image : List ℕ) → i < 128
-    → all_blank (128 - i) (start + i) image ≡ (eqb (at image (start + i)) 255 && all_blank (128 - (i + 1)) (start + (i + 1)) image)
+pub all-blank-bytes : (n a : ℕ) (image : List ℕ) → a + n ≤ length image → all_blank n a image ≡ list_all (λ b. eqb b 255) (take n (drop a image))
 unfolding all_blank
-blank_turn start i image h =
-    let e : 128 - i ≡ suc (128 - (i + 1)) = omega arith in
-    let d : start + (i + 1) ≡ suc (start + i) = omega arith in
-    rw (e, d)
+all-blank-bytes zero a image h = refl
+all-blank-bytes (suc n) a image h = rw (drop-cons image a 0 (omega arith), all-blank-bytes n (suc a) image (omega arith))
+
+pub all-blank-range : (n a : ℕ) (image : List ℕ) → all_blank n a image ≡ list_all (λ i. eqb (at image i) 255) (range_with_len a n)
+unfolding all_blank
+all-blank-range zero a image = refl
+all-blank-range (suc n) a image = rw (add-one, all-blank-range n (suc a) image)
 
 -- ---- the stores of a loop, one after the other, and of a page after the other; they are those of vs from n on
 

@@ -57,13 +57,7 @@ fn stored_blank(array: &[u8], start: usize) -> bool
     requires { start + page_bytes ≤ length array.now }
     ensures { result ≡ all_blank page_bytes start array.now }
 {
-    for i in 0..PAGE {
-        let byte = array[start + i];
-        if byte != 0xFF {
-            return false;
-        }
-    }
-    true
+    array[start..start + PAGE].iter().all(|b| *b == 0xFF)
 }
 
 // Whether a page that an exposure covers is blank after it.
@@ -73,13 +67,7 @@ fn sensed_blank(cells: &CellsRef, exposure: &Exposure, page: usize) -> bool
 {
     let ceilings = Ceilings::of(Sense::Normal);
     let start = page * PAGE;
-    for i in 0..PAGE {
-        let byte = sensed_after(cells, exposure, &ceilings, start + i);
-        if byte != 0xFF {
-            return false;
-        }
-    }
-    true
+    (start..start + PAGE).all(|address| sensed_after(cells, exposure, &ceilings, address) == 0xFF)
 }
 
 // Whether a page is blank after an exposure.

@@ -1,26 +1,22 @@
--- `look::imaging::stored_blank` meets its contract. The loop's invariant: the page is blank if the bytes not yet passed are.
--- Assumes nothing.
-use mathlib.Core.Path.{◌≡◌, sym, ◌∙◌}
-use Prim.Native.Nat.{◌-◌}
+-- `look::imaging::stored_blank` meets its contract: a page is blank if all bytes of it read FF. Assumes nothing.
+use mathlib.Core.Path.{◌≡◌, sym}
+use Prim.Native.Nat.{◌+◌, ◌-◌}
+use lib.Dec.{eqb}
+use lib.ListN.{take, drop}
 use native.Mathlib.Omega.{arith}
-use borrow.Author.Tests.{eq-eqb, ne_eqb}
-use Rattle.flash.specs.Looking.{all_blank}
-use Rattle.look.proofs.Stores.{blank_turn}
+use borrow.Author.Rules.{rules}
+use borrow.Author.Tests.{tests}
+use Rattle.std.specs.List.{list_all}
+use Rattle.std.proofs.lemmas.Iterator.{YieldsList-from_slice}
+use Rattle.std.proofs.lemmas.Iterator.Search.{all_from_yields_List}
+use Rattle.look.proofs.Stores.{all-blank-bytes}
 use Rattle.look.proofs.imaging.stored_blank.Goals as goal
 
-pub returns-then-byte : goal.returns-then-byte
-returns-then-byte c =
-    let l = c.loop-i in
-    rw (l.invariant, blank_turn _ l.i _ (omega arith), ne_eqb _ 255 c.if-byte.true)
-
-pub loop-i-preserved : goal.loop-i-preserved
-loop-i-preserved c =
-    let l = c.loop-i in
-    l.invariant ∙ blank_turn _ l.i _ (omega arith) ∙ rw (eq-eqb _ 255 c.if-byte.false)
-
 pub returns : goal.returns
-unfolding all_blank
 returns c =
-    let l = c.loop-i in
-    let e : 128 - l.i ≡ 0 = omega arith in
-    sym (l.invariant ∙ rw e)
+    let x = c.args in
+    let n : x.start + 128 - x.start ≡ 128 = omega arith in
+    let page = take (x.start + 128 - x.start) (drop x.start x.array.now) in
+    let e : c.all.result ≡ list_all (λ b. eqb b 255) page =
+    all_from_yields_List (λ b. eqb b 255) _ _ c.all.result c.all.ensures.ran (YieldsList-from_slice page cc) (λ x b q k. search (rules, tests)) in
+    rw e (rw n (sym (all-blank-bytes 128 x.start x.array.now (omega arith))))
