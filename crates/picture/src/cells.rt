@@ -11,17 +11,10 @@ use settle::cells::CellsRef;
 use settle::exposure::Exposure;
 
 // Whether a cell of a page holds a charge after an exposure.
-#[tactic(auto, using(crate::proofs::Held::turns))]
 pub fn holds_charge(cells: &CellsRef, exposure: &Option<Exposure>, page: usize) -> bool
     requires { page < pages }
     ensures { result ≡ holds_charge (cell_at (after_exposure exposure.now (cells_in cells.now))) page_cells (page * page_cells) }
 {
     let start = page * PAGE_CELLS;
-    for i in 0..PAGE_CELLS {
-        let charge = charge_after(cells, exposure, start + i);
-        if 0 < charge {
-            return true;
-        }
-    }
-    false
+    (start..start + PAGE_CELLS).any(|i| 0 < charge_after(cells, exposure, i))
 }
