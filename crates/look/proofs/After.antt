@@ -8,6 +8,7 @@ use native.Mathlib.Omega.{arith}
 use lib.Dec.{eqb-suc-zero}
 use lib.ListN.{length, take, drop, length-take, length-drop}
 use lib.Seq.{get_or-take, get_or-drop, ext_get_or}
+use Rattle.std.specs.Prelude.{Option, Some, None, IfSome}
 use Rattle.time.specs.Raw.{span}
 use Rattle.cell.specs.declared.Sense.TheVariants.{Normal}
 use Rattle.cell.specs.Cell.{at, mapi, tabulate, sensed_byte}
@@ -18,7 +19,7 @@ use Rattle.settle.specs.declared.cells.CellsRef.{CellsRef}
 use Rattle.settle.specs.declared.exposure.Exposure.{Exposure}
 use Rattle.settle.specs.Pages.{Cells, cell_at}
 use Rattle.settle.specs.Settling.{covers, charged, expose}
-use Rattle.settle.specs.Views.{cells_in}
+use Rattle.settle.specs.Views.{cells_in, after_exposure}
 use Rattle.settle.proofs.Slots.{SlotsOf, slots-from}
 use Rattle.settle.proofs.Expose.{expose-array-length}
 use Rattle.flash.specs.Looking.{exposed_by, all_blank}
@@ -96,3 +97,9 @@ module _ (e : Exposure) (cells : CellsRef) where
 
   pub after-long : length (after e cells).array ≡ 49152
   after-long = expose-array-length e.pulse e.latch.now (span e.length) (cells_in cells) ∙ cells.array_long
+
+-- where no exposure covers the page
+pub blank-stays : (o : Option Exposure) (cells : CellsRef) (x : ℕ) → IfSome o (λ e. covers e.pulse x ≡ false)
+    → all_blank 128 (x * 128) cells.array.now ≡ all_blank 128 (x * 128) (after_exposure o (cells_in cells)).array
+blank-stays None cells x h = refl
+blank-stays (Some e) cells x h = blank-else e cells x h 128 (x * 128) (omega arith) (omega arith)

@@ -1,5 +1,5 @@
 // Looking at a time: the bytes of the image, one, a page's and all.
-ghost use Rattle.std.specs.Prelude.{◌≡◌, true, ◌<◌, ◌≤◌, ◌+◌, ◌-◌, ◌*◌, ◌/◌, length, take, drop, Some};
+ghost use Rattle.std.specs.Prelude.{◌≡◌, true, false, ◌<◌, ◌≤◌, ◌+◌, ◌-◌, ◌*◌, ◌/◌, length, take, drop, Some, IfSome, IfNone};
 ghost use Rattle.std.proofs.lemmas.List.Edits.{sets};
 ghost use Rattle.cell.specs.declared.Sense.TheVariants.{Normal};
 ghost use Rattle.cell.specs.Cell.{array_bytes, page_bytes, pages, at};
@@ -61,28 +61,50 @@ fn stored_blank(array: &[u8], start: usize) -> bool
 }
 
 // Whether a page that an exposure covers is blank after it.
-fn sensed_blank(cells: &CellsRef, exposure: &Exposure, page: usize) -> bool
-    requires { (page < pages) × (covers exposure.now.pulse page ≡ true) }
+fn sensed_blank(cells: &CellsRef, exposure: &Exposure, ceilings: &Ceilings, page: usize) -> bool
+    requires { (ceilings.now.sense ≡ Normal) × (page < pages) × (covers exposure.now.pulse page ≡ true) }
     ensures { result ≡ all_blank page_bytes (page * page_bytes) (after_exposure (Some exposure.now) (cells_in cells.now)).array }
 {
-    let ceilings = Ceilings::of(Sense::Normal);
     let start = page * PAGE;
-    (start..start + PAGE).all(|address| sensed_after(cells, exposure, &ceilings, address) == 0xFF)
+    (start..start + PAGE).all(|address| sensed_after(cells, exposure, ceilings, address) == 0xFF)
 }
 
-// Whether a page is blank after an exposure.
-fn blank_after(cells: &CellsRef, exposure: &Option<Exposure>, page: usize) -> bool
+// The exposure where it covers a page, and none where the page stays.
+fn covering<'a>(exposure: &'a Option<Exposure<'a>>, page: usize) -> Option<&'a Exposure<'a>>
+    ensures some { IfSome result (λ found. (exposure.now ≡ Some found.now) × (covers found.now.pulse page ≡ true)) }
+    ensures none { IfNone result (IfSome exposure.now (λ other. covers other.pulse page ≡ false)) }
+{
+    match exposure {
+        Some(exposure) if exposure.covers(page) => Some(exposure),
+        _ => None,
+    }
+}
+
+// Whether a page is blank after an exposure, sensed by ceilings that many pages share.
+pub fn blank_after(
+    cells: &CellsRef,
+    exposure: &Option<Exposure>,
+    ceilings: &Ceilings,
+    page: usize,
+) -> bool
+    requires { (ceilings.now.sense ≡ Normal) × (page < pages) }
+    ensures { result ≡ all_blank page_bytes (page * page_bytes) (after_exposure exposure.now (cells_in cells.now)).array }
+{
+    match covering(exposure, page) {
+        None => stored_blank(cells.array, page * PAGE),
+        Some(exposure) => sensed_blank(cells, exposure, ceilings, page),
+    }
+}
+
+// The same of one page: ceilings are made only where it is sensed.
+fn one_blank(cells: &CellsRef, exposure: &Option<Exposure>, page: usize) -> bool
     requires { page < pages }
     ensures { result ≡ all_blank page_bytes (page * page_bytes) (after_exposure exposure.now (cells_in cells.now)).array }
 {
-    let start = page * PAGE;
-    let Some(exposure) = exposure else {
-        return stored_blank(cells.array, start);
-    };
-    if !exposure.covers(page) {
-        return stored_blank(cells.array, start);
+    match covering(exposure, page) {
+        None => stored_blank(cells.array, page * PAGE),
+        Some(exposure) => sensed_blank(cells, exposure, &Ceilings::of(Sense::Normal), page),
     }
-    sensed_blank(cells, exposure, page)
 }
 
 // Whether the page of an address is blank at a time.
@@ -91,7 +113,7 @@ pub fn blank_page(held: &Held, address: usize, time: Time) -> bool
     requires { address < array_bytes }
     ensures { result ≡ blank_at time (chip_of held.now) address }
 {
-    blank_after(&held.cells(), &exposure_at(held, time), address / PAGE)
+    one_blank(&held.cells(), &exposure_at(held, time), address / PAGE)
 }
 
 // The stored bytes from `start` to `end`, into `out`.
