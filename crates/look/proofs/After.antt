@@ -98,8 +98,20 @@ module _ (e : Exposure) (cells : CellsRef) where
   pub after-long : length (after e cells).array ≡ 49152
   after-long = expose-array-length e.pulse e.latch.now (span e.length) (cells_in cells) ∙ cells.array_long
 
--- where no exposure covers the page
-pub blank-stays : (o : Option Exposure) (cells : CellsRef) (x : ℕ) → IfSome o (λ e. covers e.pulse x ≡ false)
-    → all_blank 128 (x * 128) cells.array.now ≡ all_blank 128 (x * 128) (after_exposure o (cells_in cells)).array
-blank-stays None cells x h = refl
-blank-stays (Some e) cells x h = blank-else e cells x h 128 (x * 128) (omega arith) (omega arith)
+-- ---- where no exposure covers the page
+
+module _ (cells : CellsRef) where
+  pub cell-stays : (o : Option Exposure) (i : ℕ) → i < 393216 → IfSome o (λ e. covers e.pulse (i / 1024) ≡ false)
+      → cell_at (cells_in cells) i ≡ cell_at (after_exposure o (cells_in cells)) i
+  cell-stays None i h n = refl
+  cell-stays (Some e) i h n = cell-else e cells i h n
+
+  pub byte-stays : (o : Option Exposure) (a : ℕ) → IfSome o (λ e. covers e.pulse (a / 128) ≡ false)
+      → at cells.array.now a ≡ at (after_exposure o (cells_in cells)).array a
+  byte-stays None a n = refl
+  byte-stays (Some e) a n = byte-else e cells a n
+
+  pub blank-stays : (o : Option Exposure) (x : ℕ) → IfSome o (λ e. covers e.pulse x ≡ false)
+      → all_blank 128 (x * 128) cells.array.now ≡ all_blank 128 (x * 128) (after_exposure o (cells_in cells)).array
+  blank-stays None x n = refl
+  blank-stays (Some e) x n = blank-else e cells x n 128 (x * 128) (omega arith) (omega arith)

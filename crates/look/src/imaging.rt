@@ -1,5 +1,5 @@
 // Looking at a time: the bytes of the image, one, a page's and all.
-ghost use Rattle.std.specs.Prelude.{◌≡◌, true, false, ◌<◌, ◌≤◌, ◌+◌, ◌-◌, ◌*◌, ◌/◌, length, take, drop, Some, IfSome, IfNone};
+ghost use Rattle.std.specs.Prelude.{◌≡◌, true, ◌<◌, ◌≤◌, ◌+◌, ◌-◌, ◌*◌, ◌/◌, length, take, drop, Some};
 ghost use Rattle.std.proofs.lemmas.List.Edits.{sets};
 ghost use Rattle.cell.specs.declared.Sense.TheVariants.{Normal};
 ghost use Rattle.cell.specs.Cell.{array_bytes, page_bytes, pages, at};
@@ -8,7 +8,7 @@ ghost use Rattle.settle.specs.Views.{cells_in, after_exposure};
 ghost use Rattle.flash.specs.Looking.{all_blank, peek_at, blank_at, image_at};
 ghost use Rattle.flash.specs.Views.{chip_of};
 
-use crate::looking::{charged, exposure_at};
+use crate::looking::{charged, covering, exposure_at};
 use cell::{FLASH_SIZE, PAGE, PAGES, Sense};
 use flash::held::Held;
 use sensing::limits::Ceilings;
@@ -33,13 +33,12 @@ fn byte_after(cells: &CellsRef, exposure: &Option<Exposure>, address: usize) -> 
     requires { address < array_bytes }
     ensures { result ≡ at (after_exposure exposure.now (cells_in cells.now)).array address }
 {
-    let Some(exposure) = exposure else {
-        return cells.array[address];
-    };
-    if !exposure.covers(address / PAGE) {
-        return cells.array[address];
+    match covering(exposure, address / PAGE) {
+        None => cells.array[address],
+        Some(exposure) => {
+            sensed_after(cells, exposure, &Ceilings::of(Sense::Normal), address)
+        }
     }
-    sensed_after(cells, exposure, &Ceilings::of(Sense::Normal), address)
 }
 
 // The byte at an address at a time.
@@ -67,17 +66,6 @@ fn sensed_blank(cells: &CellsRef, exposure: &Exposure, ceilings: &Ceilings, page
 {
     let start = page * PAGE;
     (start..start + PAGE).all(|address| sensed_after(cells, exposure, ceilings, address) == 0xFF)
-}
-
-// The exposure where it covers a page, and none where the page stays.
-fn covering<'a>(exposure: &'a Option<Exposure<'a>>, page: usize) -> Option<&'a Exposure<'a>>
-    ensures some { IfSome result (λ found. (exposure.now ≡ Some found.now) × (covers found.now.pulse page ≡ true)) }
-    ensures none { IfNone result (IfSome exposure.now (λ other. covers other.pulse page ≡ false)) }
-{
-    match exposure {
-        Some(exposure) if exposure.covers(page) => Some(exposure),
-        _ => None,
-    }
 }
 
 // Whether a page is blank after an exposure, sensed by ceilings that many pages share.

@@ -1,10 +1,10 @@
 // Looking at a time: what a settle then would leave, worked out for what is asked, and nothing kept. Here the exposure that a look
 // adds, and charges.
-ghost use Rattle.std.specs.Prelude.{◌≡◌, ◌<◌};
+ghost use Rattle.std.specs.Prelude.{◌≡◌, true, false, ◌<◌, Some, IfSome, IfNone};
 ghost use Rattle.time.specs.Raw.{span};
 ghost use Rattle.cell.specs.Cell.{array_cells};
 ghost use Rattle.settle.specs.Pages.{cell_at};
-ghost use Rattle.settle.specs.Settling.{charged};
+ghost use Rattle.settle.specs.Settling.{charged, covers};
 ghost use Rattle.settle.specs.Views.{cells_in, after_exposure};
 ghost use Rattle.flash.specs.Chip.{cells, settled_at};
 ghost use Rattle.flash.specs.Looking.{charge_at};
@@ -30,6 +30,17 @@ pub fn exposure_at<'a>(held: &'a Held<'_>, time: Time) -> Option<Exposure<'a>>
     )
 }
 
+// The exposure where it covers a page, and none where the page stays.
+pub fn covering<'a>(exposure: &'a Option<Exposure<'a>>, page: usize) -> Option<&'a Exposure<'a>>
+    ensures some { IfSome result (λ found. (exposure.now ≡ Some found.now) × (covers found.now.pulse page ≡ true)) }
+    ensures none { IfNone result (IfSome exposure.now (λ other. covers other.pulse page ≡ false)) }
+{
+    match exposure {
+        Some(exposure) if exposure.covers(page) => Some(exposure),
+        _ => None,
+    }
+}
+
 // The charge of the cell i of the exposed pages, which had a charge.
 pub fn charged(exposure: &Exposure, i: usize, charge: u64) -> u64
     ensures { result ≡ charged exposure.now.pulse exposure.now.latch.now (span exposure.now.length) i charge }
@@ -45,13 +56,10 @@ pub fn charge_after(cells: &CellsRef, exposure: &Option<Exposure>, i: usize) -> 
     ensures { result ≡ cell_at (after_exposure exposure.now (cells_in cells.now)) i }
 {
     let charge = cells.charge(i);
-    let Some(exposure) = exposure else {
-        return charge;
-    };
-    if !exposure.covers(i / PAGE_CELLS) {
-        return charge;
+    match covering(exposure, i / PAGE_CELLS) {
+        None => charge,
+        Some(exposure) => charged(exposure, i, charge),
     }
-    charged(exposure, i, charge)
 }
 
 // The charge of the cell i at a time.

@@ -4,7 +4,7 @@ use Rattle.look.proofs.After.{blank-stays}
 use Rattle.look.proofs.imaging.blank_after.Goals as goal
 
 pub returns-in-None : goal.returns-in-None
-returns-in-None c = c.stored_blank.ensures ∙ blank-stays c.args.exposure.now c.args.cells.now c.args.page c.in-None.ensures.none
+returns-in-None c = c.stored_blank.ensures ∙ blank-stays c.args.cells.now c.args.exposure.now c.args.page c.in-None.ensures.none
 
 pub returns-in-Some : goal.returns-in-Some
 returns-in-Some c = rw c.in-Some.ensures.some.0 c.sensed_blank.ensures
