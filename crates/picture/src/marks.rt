@@ -1,15 +1,22 @@
 // The map: a mark for each page, by what is left of it.
 ghost use Rattle.std.specs.Prelude.{◌≡◌, ◌<◌, ◌≤◌, length};
+ghost use Rattle.time.specs.declared.Time.{Time};
+ghost use Rattle.cell.specs.declared.Sense.TheVariants.{Normal};
 ghost use Rattle.cell.specs.Cell.{pages};
+ghost use Rattle.settle.specs.Views.{cells_in, after_exposure};
+ghost use Rattle.flash.specs.Chip.{Chip, settled_at};
 ghost use Rattle.flash.specs.Views.{chip_of};
 ghost use Rattle.picture.specs.Outputs.{written};
 ghost use Rattle.picture.specs.Marks.{charged_at, mark_at};
 
 use crate::cells::holds_charge;
-use cell::{PAGE, PAGES};
+use cell::{PAGES, Sense};
 use flash::held::Held;
-use look::imaging::blank_page;
+use look::imaging::blank_after;
 use look::looking::exposure_at;
+use sensing::limits::Ceilings;
+use settle::cells::CellsRef;
+use settle::exposure::Exposure;
 use time::Time;
 
 // Whether a page holds a charge at a time.
@@ -21,19 +28,36 @@ pub fn charged(held: &Held, page: usize, time: Time) -> bool
     holds_charge(&held.cells(), &exposure_at(held, time), page)
 }
 
+// The mark of a page after an exposure, at each time whose settle would leave what it leaves.
+fn mark_after(
+    cells: &CellsRef,
+    exposure: &Option<Exposure>,
+    ceilings: &Ceilings,
+    page: usize,
+) -> u8
+    requires { (ceilings.now.sense ≡ Normal) × (page < pages) }
+    ensures { (t : Time) (k : Chip) → settled_at t k ≡ after_exposure exposure.now (cells_in cells.now) → result ≡ mark_at t k page }
+{
+    if !blank_after(cells, exposure, ceilings, page) {
+        return b'#';
+    }
+    if holds_charge(cells, exposure, page) {
+        return b'+';
+    }
+    b'.'
+}
+
 // The mark of a page at a time.
-#[tactic(auto, unfolding(crate::specs::Marks::mark_at))]
 pub fn mark(held: &Held, page: usize, time: Time) -> u8
     requires { page < pages }
     ensures { result ≡ mark_at time (chip_of held.now) page }
 {
-    if !blank_page(held, page * PAGE, time) {
-        return b'#';
-    }
-    if charged(held, page, time) {
-        return b'+';
-    }
-    b'.'
+    mark_after(
+        &held.cells(),
+        &exposure_at(held, time),
+        &Ceilings::of(Sense::Normal),
+        page,
+    )
 }
 
 // The marks of all pages at a time, into `out`, whose bytes past them stay: so it is a slice with room, and no array.
@@ -42,7 +66,10 @@ pub fn write_marks(held: &Held, time: Time, out: &mut [u8])
     requires { pages ≤ length out.old }
     ensures { out.new ≡ written (mark_at time (chip_of held.now)) pages out.old }
 {
+    let cells = held.cells();
+    let exposure = exposure_at(held, time);
+    let ceilings = Ceilings::of(Sense::Normal);
     for page in 0..PAGES {
-        out[page] = mark(held, page, time);
+        out[page] = mark_after(&cells, &exposure, &ceilings, page);
     }
 }

@@ -7,4 +7,4 @@ use Rattle.picture.specs.Outputs.{written}
 use Rattle.picture.proofs.marks.write_marks.Given as goal
 
 abbrev pub invariant-loop-page : goal.invariant-loop-page
-invariant-loop-page l = l.out ≡ written (mark_at l.time (chip_of l.held)) l.page l.initial.out
+invariant-loop-page l = l.out ≡ written (mark_at l.fn.time (chip_of l.held)) l.page l.initial.out
