@@ -38,8 +38,5 @@ pub fn ask(
         now,
     );
     write(memory.record, done.flash);
-    Ok(Answer {
-        value: done.value,
-        count: done.count,
-    })
+    Ok(done.answer)
 }

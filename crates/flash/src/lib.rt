@@ -16,3 +16,10 @@ pub struct Flash {
     pub sensed: [u8; 4],
     pub indices: [u16; PAGES],
 }
+
+// What an accepted call answers: the value that a read gives, and how many event words were given.
+#[derive(Clone, Copy, Debug, Default, PartialEq, Eq)]
+pub struct Answer {
+    pub value: u16,
+    pub count: usize,
+}

@@ -11,7 +11,7 @@ use Rattle.registers.specs.Calls.{settles}
 use Rattle.flash.specs.declared.Flash.{Flash}
 use Rattle.flash.specs.Chip.{step, answer}
 use Rattle.layout.specs.Layout.{mode_of, decoded, refused3}
-use Rattle.lent.specs.declared.Answer.{Answer}
+use Rattle.flash.specs.declared.Answer.{Answer}
 use Rattle.lent.specs.declared.Request.{Request}
 use Rattle.lent.specs.declared.Request.TheVariants.{WriteRegister, Write8, Read8, Read16, Protect, Reset, PowerOff, Environment}
 use Rattle.lent.specs.Memory.{Memory, chip_in, memory_of, Check, check, first_given, misfits, past_end, mode_over, last_second, too_early, too_few_words}

@@ -7,6 +7,9 @@ pub mod making;
 pub mod memory;
 pub mod opening;
 
+// What a call that is not refused answers.
+pub use flash::Answer;
+
 // The calls of the ledger as a host asks for them, with their arguments but the time: a mode is a number here, and may be none. One generic
 // enum for these and `registers::Call` would be no plainer: each definition over a call would name the mode's type.
 #[derive(Clone, Copy, Debug, PartialEq, Eq)]
@@ -19,11 +22,4 @@ pub enum Request {
     Reset,
     PowerOff,
     Environment(u8, bool, bool),
-}
-
-// What a call that is not refused answers: the value that a read gives, and how many event words were given.
-#[derive(Clone, Copy, Debug, Default, PartialEq, Eq)]
-pub struct Answer {
-    pub value: u16,
-    pub count: usize,
 }

@@ -16,7 +16,7 @@ use layout::RECORD_LEN;
 use refusal::Refusal;
 use time::Time;
 
-// The state of a record alone.
+// The state of a record alone: nothing travels with it that a struct could hold.
 #[tactic(auto, unfolding(crate::specs::Looked::register_refusal))]
 pub fn opened_record(record: &[u8]) -> Result<Flash, Refusal>
     ensures told { Answers (register_refusal «record».now) (decoded «record».now) result }

@@ -84,12 +84,13 @@ fn lit(flash: Flash, settings: Settings, since: Time) -> Flash
 {
     let registers = with_settings(settings, flash.registers);
     Flash {
-        registers: registers,
+        registers,
         pulse_since: since,
         ..flash
     }
 }
 
+// A list may hold any number of calls: that those before `end` lie in it is a fact of the two, here and below.
 fn run_writes(flash: Flash, calls: &[u64], from: usize, end: usize) -> Ahead
     requires { (3 * end ≤ length calls.now) × (flash.registers.verify_pending ≡ None) }
     ensures { Onward end calls.now from flash result.done result.flash }
@@ -131,9 +132,6 @@ pub fn run_light(flash: Flash, calls: &[u64], from: usize, end: usize) -> Ahead
     let pending = registers.verify_pending;
     match pending {
         None => run_writes(flash, calls, from, end),
-        Some(_) => Ahead {
-            flash: flash,
-            done: from,
-        },
+        Some(_) => Ahead { flash, done: from },
     }
 }

@@ -8,7 +8,7 @@ ghost use Rattle.settle.specs.Settling.{range_bytes};
 ghost use Rattle.flash.specs.Chip.{placed, sensed_after, Fit, Performed};
 
 use calling::{next, settles};
-use flash::Flash;
+use flash::{Answer, Flash};
 use parts::answering::{settled_answer, stored_answer};
 use parts::ending::end_pulse;
 use parts::verifying::sense;
@@ -17,12 +17,11 @@ use settle::cells::CellsMut;
 use settling::settle;
 use time::accepted::Accepted;
 
-// The state after a call, its answer, and the number of event words given.
+// The state after a call, and its answer.
 #[derive(Clone, Copy)]
 pub struct Done {
     pub flash: Flash,
-    pub value: u16,
-    pub count: usize,
+    pub answer: Answer,
 }
 
 // The sensed bytes after a call whose settle left some.
@@ -47,10 +46,9 @@ fn perform_settling(
     now: Accepted,
 ) -> Done
     requires { Fit (record { flash = flash; array = array.old; charges = charges.old }) × (placed call ≡ true) × (1 ≤ range_bytes (pulse flash.registers) → range_bytes (pulse flash.registers) < length events.old) × (settles call now.time flash.registers ≡ true) }
-    ensures { Performed call now.time (record { flash = flash; array = array.old; charges = charges.old }) events.old result.flash array.new charges.new events.new result.value result.count }
+    ensures { Performed call now.time (record { flash = flash; array = array.old; charges = charges.old }) events.old result.flash array.new charges.new events.new result.answer.value result.answer.count }
 {
     let registers = flash.registers;
-    let latch = registers.latch;
     let mut indices = flash.indices;
     let pulse = registers.pulse();
     let mut cells = CellsMut {
@@ -58,30 +56,21 @@ fn perform_settling(
         array,
         charges,
     };
-    let changed = settle(
-        &mut cells,
-        events,
-        pulse,
-        &latch,
-        flash.pulse_since,
-        now.time,
-    );
+    let since = flash.pulse_since;
+    let changed = settle(&mut cells, events, pulse, &registers.latch, since, now.time);
     let next = next(registers, call, now);
     let count = end_pulse(events, changed, call, next.control, pulse, next.pulse());
     let old = flash.sensed;
     let sensed = sense(registers, now.time, &cells.seen(), old);
     let value = settled_answer(call, now.time, pulse, registers, sensed);
-    let kept = sensed_after(call, sensed);
-    Done {
-        flash: Flash {
-            registers: next,
-            pulse_since: now.time,
-            sensed: kept,
-            indices: indices,
-        },
-        value: value,
-        count: count,
-    }
+    let flash = Flash {
+        registers: next,
+        pulse_since: now.time,
+        sensed: sensed_after(call, sensed),
+        indices,
+    };
+    let answer = Answer { value, count };
+    Done { flash, answer }
 }
 
 // An accepted call.
@@ -94,19 +83,17 @@ pub fn perform(
     now: Accepted,
 ) -> Done
     requires { Fit (record { flash = flash; array = array.old; charges = charges.old }) × (placed call ≡ true) × (settles call now.time flash.registers ≡ true → 1 ≤ range_bytes (pulse flash.registers) → range_bytes (pulse flash.registers) < length events.old) }
-    ensures { Performed call now.time (record { flash = flash; array = array.old; charges = charges.old }) events.old result.flash array.new charges.new events.new result.value result.count }
+    ensures { Performed call now.time (record { flash = flash; array = array.old; charges = charges.old }) events.old result.flash array.new charges.new events.new result.answer.value result.answer.count }
 {
     let registers = flash.registers;
     if settles(registers, call, now.time) {
         return perform_settling(flash, array, charges, events, call, now);
     }
     let value = stored_answer(call, registers, now.time, array);
-    Done {
-        flash: Flash {
-            registers: next(registers, call, now),
-            ..flash
-        },
-        value: value,
-        count: 0,
-    }
+    let answer = Answer { value, count: 0 };
+    let flash = Flash {
+        registers: next(registers, call, now),
+        ..flash
+    };
+    Done { flash, answer }
 }

@@ -50,13 +50,10 @@ fn call_held(
     let now = call_refusal(*flash, request, time, events.len())?;
     let done = perform(*flash, array, charges, events, call_of(request), now);
     *flash = done.flash;
-    Ok(Answer {
-        value: done.value,
-        count: done.count,
-    })
+    Ok(done.answer)
 }
 
-// The calls from..end, light ones in runs.
+// The calls from..end, light ones in runs. A list may hold any number of calls: that these lie in it is a fact of the two.
 pub fn run(
     flash: &mut Flash,
     array: &mut [u8],

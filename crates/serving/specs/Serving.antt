@@ -3,7 +3,7 @@
 use Rattle.std.specs.Prelude.{ℕ, ◌-◌, ◌≤◌, ◌<◌, List, Result}
 use Rattle.refusal.specs.declared.Refusal.{Refusal}
 use Rattle.refusal.specs.Refusal.{told}
-use Rattle.lent.specs.declared.Answer.{Answer}
+use Rattle.flash.specs.declared.Answer.{Answer}
 use Rattle.lent.specs.Memory.{Memory}
 use Rattle.lent.specs.Asked.{Outcome, value_of, count_of}
 use Rattle.course.specs.declared.Course.{Course}

@@ -40,4 +40,4 @@ returns c =
     let array = sym same.same_array in
     let charges = sym same.same_charges in
     moved (search rules) (search rules) (search rules)
-    (performs _ _ c.requires.0 _ c.pulse-pulse.ensures c.settle-changed.ensures.left _ c.requires.3 _ c.next-next.ensures (c.end_pulse-count.ensures.0 ∙ rw c.pulse.ensures) (c.end_pulse-count.ensures.1 ∙ rw c.pulse.ensures) sensed c.settled_answer-value.ensures.0 c.settled_answer-value.ensures.1 c.sensed_after-kept.ensures)
+    (performs _ _ c.requires.0 _ c.pulse-pulse.ensures c.settle-changed.ensures.left _ c.requires.3 _ c.next-next.ensures (c.end_pulse-count.ensures.0 ∙ rw c.pulse.ensures) (c.end_pulse-count.ensures.1 ∙ rw c.pulse.ensures) sensed c.settled_answer-value.ensures.0 c.settled_answer-value.ensures.1 c.sensed_after.ensures)
