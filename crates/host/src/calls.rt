@@ -10,7 +10,7 @@ ghost use Rattle.lent.specs.Views.{memory_at, SameLent, Leaves};
 use ask::ask;
 use lent::memory::LentMut;
 use lent::{Answer, Request};
-use refusal::{Refusal, told};
+use refusal::{Refusal, told, told_into};
 use time::Time;
 
 // Any call, with its count of event words put in its place: none on a refusal.
@@ -116,13 +116,7 @@ pub extern "C" fn flash_read8(
         Time(seconds, fraction),
         count,
     );
-    match outcome {
-        Ok(answer) => {
-            *value = answer.value as u8;
-            0
-        }
-        Err(refusal) => u32::from(refusal),
-    }
+    told_into(outcome.map(|answer| answer.value as u8), value)
 }
 
 // A word read, high byte first.
@@ -152,13 +146,7 @@ pub extern "C" fn flash_read16(
         Time(seconds, fraction),
         count,
     );
-    match outcome {
-        Ok(answer) => {
-            *value = answer.value;
-            0
-        }
-        Err(refusal) => u32::from(refusal),
-    }
+    told_into(outcome.map(|answer| answer.value), value)
 }
 
 // Protection from outside.

@@ -37,13 +37,7 @@ pub extern "C" fn flash_write_snapshot(
         array,
         charges,
     };
-    match write_snapshot(lent, out) {
-        Ok(length) => {
-            *len = length as u64;
-            0
-        }
-        Err(refusal) => u32::from(refusal),
-    }
+    told_into(write_snapshot(lent, out).map(|length| length as u64), len)
 }
 
 // A snapshot taken into lent memory, or refused and nothing changed.
