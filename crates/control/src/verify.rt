@@ -9,10 +9,7 @@ use time::Time;
 pub fn sense_due(pending: Option<PendingSense>, supply: Supply, now: Time) -> bool
     ensures { result ≡ sense_due pending supply now }
 {
-    match pending {
-        None => false,
-        Some(sense) => now.reached(sense.at) & (supply != Supply::Stopped),
-    }
+    pending.is_some_and(|sense| now.reached(sense.at) & (supply != Supply::Stopped))
 }
 
 // The pending sense after control goes from `old` to `new`.

@@ -26,7 +26,7 @@ fn takes_data(registers: Registers, now: Time) -> bool
 fn latched(registers: Registers, address: u16, value: u8) -> Registers
     ensures { result ≡ latched address value registers }
 {
-    let at = (address % PAGE_BYTES) as usize;
+    let at = usize::from(address % PAGE_BYTES);
     let mut r = registers;
     r.latch[at] = value;
     r.page = address / PAGE_BYTES * PAGE_BYTES;

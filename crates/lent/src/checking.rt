@@ -45,7 +45,7 @@ pub fn call_of(request: Request) -> Call
 pub fn past_end(address: u16) -> bool
     ensures { result ≡ past_end address }
 {
-    FLASH_SIZE <= address as usize
+    FLASH_SIZE <= usize::from(address)
 }
 
 fn misplaced(request: Request) -> bool
@@ -53,7 +53,7 @@ fn misplaced(request: Request) -> bool
 {
     match request {
         Request::Write8(a, _) | Request::Read8(a) => past_end(a),
-        Request::Read16(a) => FLASH_SIZE <= a as usize + 1,
+        Request::Read16(a) => FLASH_SIZE <= usize::from(a) + 1,
         Request::Environment(mode, _, _) => 5 < mode,
         _ => false,
     }
@@ -68,13 +68,10 @@ pub fn last_second(time: Time) -> bool
 fn too_few_words(pulse: Option<Pulse>, words: usize) -> bool
     ensures { result ≡ too_few_words pulse words }
 {
-    match pulse {
-        None => false,
-        Some(p) => {
-            let range = p.pages as usize * PAGE;
-            (0 < range) & (words <= range)
-        }
-    }
+    pulse.is_some_and(|p| {
+        let range = usize::from(p.pages) * PAGE;
+        (0 < range) & (words <= range)
+    })
 }
 
 // Whether a time is one at which a state can be called or looked at: not in the last second, nor before the last settling.

@@ -1,4 +1,5 @@
-// What reads answer: the stored bytes, or what a settle left in the sensed ones.
+// What reads answer: the stored bytes, or what a settle left in the sensed ones. What is asked for is a fact of one parameter: that the
+// array, lent alone here, has its length, or that a call is placed, which is tested once before.
 ghost use Rattle.std.specs.Prelude.{◌≡◌, true, false, ◌<◌, length};
 ghost use Rattle.cell.specs.Cell.{array_bytes};
 ghost use Rattle.registers.specs.Calls.{settles};
@@ -67,8 +68,8 @@ pub fn stored_answer(call: Call, registers: Registers, time: Time, array: &[u8])
     ensures { (result ≡ stored_answer call array.now) × (result < answer_limit call) }
 {
     match call {
-        Call::Read8(a) => u16::from(serve_byte(registers, time, array, a as usize)),
-        Call::Read16(a) => serve_word(registers, time, array, a as usize),
+        Call::Read8(a) => u16::from(serve_byte(registers, time, array, usize::from(a))),
+        Call::Read16(a) => serve_word(registers, time, array, usize::from(a)),
         _ => 0,
     }
 }

@@ -1,4 +1,5 @@
-// Pulses that end: whether a pulse is still the same after a call, and its end event.
+// Pulses that end: whether a pulse is still the same after a call, and its end event. What is asked for is a fact of one pulse alone, and
+// room for one more word.
 ghost use Rattle.std.specs.Prelude.{◌≡◌, ◌<◌, ◌≤◌, ◌+◌, ◌*◌, length};
 ghost use Rattle.std.proofs.lemmas.List.Edits.{sets};
 ghost use Rattle.cell.specs.Cell.{page_bytes, pages};
@@ -35,13 +36,10 @@ pub fn end_pulse(
         return count;
     }
     match old {
-        None => count,
-        Some(p) => {
-            if p.pages == 0 {
-                return count;
-            }
-            events[count] = end_word(p, call, control);
+        Some(pulse) if pulse.pages != 0 => {
+            events[count] = end_word(pulse, call, control);
             count + 1
         }
+        _ => count,
     }
 }

@@ -26,10 +26,7 @@ fn verify_sense(control: u8) -> Sense
 fn sense_address(pending: Option<PendingSense>) -> u16
     ensures { result ≡ sense_address pending }
 {
-    match pending {
-        None => 0,
-        Some(sense) => sense.address,
-    }
+    pending.map_or(0, |sense| sense.address)
 }
 
 // The four bytes from an address on, as their cells sense.

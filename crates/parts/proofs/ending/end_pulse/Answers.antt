@@ -43,20 +43,20 @@ returns-then-eq c =
     let x = c.args in
     rw (sym (c.eq.ensures ∙ same x.old x.new) ∙ c.if-eq.true) (refl, omega arith)
 
-pub returns-then-p-eq0 : goal.returns-then-p-eq0
+pub returns-in-Some : goal.returns-in-Some
 unfolding ended end_of
-returns-then-p-eq0 c =
+returns-in-Some c =
     let x = c.args in
-    rw (sym (c.eq.ensures ∙ same x.old x.new) ∙ c.if-eq.false, c.in-Some.is, eq-eqb _ 0 c.if-p-eq0.true) (refl, omega arith)
+    rw (sym (c.eq.ensures ∙ same x.old x.new) ∙ c.if-eq.false, c.in-Some.is, ne_eqb _ 0 c.if-pulse-ne0.true) (rw c.end_word.ensures, omega arith)
 
-pub returns-in-None : goal.returns-in-None
+pub returns-in_default : goal.returns-in_default
+unfolding ended end_of
+returns-in_default c =
+    let x = c.args in
+    rw (sym (c.eq.ensures ∙ same x.old x.new) ∙ c.if-eq.false, c.in-Some.is, eq-eqb _ 0 c.if-pulse-ne0.false) (refl, omega arith)
+
+pub returns-in_default-2 : goal.returns-in_default-2
 unfolding ended
-returns-in-None c =
+returns-in_default-2 c =
     let x = c.args in
-    rw (sym (c.eq.ensures ∙ same x.old x.new) ∙ c.if-eq.false, c.in-None.is) (refl, omega arith)
-
-pub returns-else-p-eq0 : goal.returns-else-p-eq0
-unfolding ended end_of
-returns-else-p-eq0 c =
-    let x = c.args in
-    rw (sym (c.eq.ensures ∙ same x.old x.new) ∙ c.if-eq.false, c.in-Some.is, ne_eqb _ 0 c.if-p-eq0.false) (rw c.end_word.ensures, omega arith)
+    rw (sym (c.eq.ensures ∙ same x.old x.new) ∙ c.if-eq.false, c.in_default.is) (refl, omega arith)
