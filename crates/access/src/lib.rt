@@ -47,12 +47,12 @@ fn control_set(registers: Registers, new: u8, now: Accepted) -> Registers
     let kept = pending_after(old, new, pending);
     Registers {
         control: new,
-        erase: erase,
-        swe_ready: swe_ready,
-        program_ready: program_ready,
-        erase_ready: erase_ready,
-        recovery: recovery,
-        verify_ready: verify_ready,
+        erase,
+        swe_ready,
+        program_ready,
+        erase_ready,
+        recovery,
+        verify_ready,
         verify_pending: kept,
         ..registers
     }

@@ -32,10 +32,10 @@ pub fn read(record: &[u8; RECORD_LEN]) -> Flash
     get_row(record, INDICES, &mut indices);
     let registers = registers_of(head, addresses, halves, latch);
     Flash {
-        registers: registers,
+        registers,
         pulse_since: Time(halves[12], halves[13]),
-        sensed: sensed,
-        indices: indices,
+        sensed,
+        indices,
     }
 }
 

@@ -104,7 +104,7 @@ pub fn registers_of(
         erase: head[2],
         enabled: head[3] == 1,
         power_down_disabled: head[4] == 1,
-        latch: latch,
+        latch,
         page: addresses[0],
         supply: supply_of(head[5]),
         oscillator: head[6] == 1,

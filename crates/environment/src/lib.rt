@@ -1,4 +1,5 @@
-// Reset, power-off, and changes of mode, module and oscillator.
+// Reset, power-off, and changes of mode, module and oscillator. These three stay parameters: they come as a call's fields, which the
+// definitions name one by one, and a struct would be made in a match arm only for the next function to take it apart.
 #![tactic(auto)]
 
 ghost use Rattle.std.specs.Prelude.{◌≡◌};
@@ -92,14 +93,14 @@ fn environment_set(
     let program_ready = renewed(starts, PSU_RISE, now, registers.program_ready);
     let erase_ready = renewed(starts, ESU_RISE, now, registers.erase_ready);
     Registers {
-        supply: supply,
-        oscillator: oscillator,
-        mode: mode,
-        module: module,
-        ready: ready,
-        swe_ready: swe_ready,
-        program_ready: program_ready,
-        erase_ready: erase_ready,
+        supply,
+        oscillator,
+        mode,
+        module,
+        ready,
+        swe_ready,
+        program_ready,
+        erase_ready,
         ..registers
     }
 }

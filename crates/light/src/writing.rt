@@ -29,11 +29,11 @@ pub fn settings_of(registers: Registers) -> Settings
         erase: registers.erase,
         enabled: registers.enabled,
         power_down_disabled: registers.power_down_disabled,
-        swe_ready: swe_ready,
-        program_ready: program_ready,
-        erase_ready: erase_ready,
-        recovery: recovery,
-        verify_ready: verify_ready,
+        swe_ready,
+        program_ready,
+        erase_ready,
+        recovery,
+        verify_ready,
     }
 }
 
@@ -51,11 +51,11 @@ pub fn with_settings(settings: Settings, registers: Registers) -> Registers
         erase: settings.erase,
         enabled: settings.enabled,
         power_down_disabled: settings.power_down_disabled,
-        swe_ready: swe_ready,
-        program_ready: program_ready,
-        erase_ready: erase_ready,
-        recovery: recovery,
-        verify_ready: verify_ready,
+        swe_ready,
+        program_ready,
+        erase_ready,
+        recovery,
+        verify_ready,
         verify_pending: None,
         ..registers
     }
@@ -90,12 +90,12 @@ fn set_control(settings: Settings, new: u8, now: Accepted) -> Settings
     let erase = erase_after(new, settings.erase);
     Settings {
         control: new,
-        erase: erase,
-        swe_ready: swe_ready,
-        program_ready: program_ready,
-        erase_ready: erase_ready,
-        recovery: recovery,
-        verify_ready: verify_ready,
+        erase,
+        swe_ready,
+        program_ready,
+        erase_ready,
+        recovery,
+        verify_ready,
         ..settings
     }
 }

@@ -27,7 +27,7 @@ impl Registers {
             direction: Direction::Program,
             first: self.page / PAGE_BYTES,
             pages: 1,
-            ready: ready,
+            ready,
         }
     }
 
@@ -40,7 +40,7 @@ impl Registers {
             direction: Direction::Erase,
             first: range.first,
             pages: range.pages,
-            ready: ready,
+            ready,
         }
     }
 
