@@ -7,9 +7,7 @@ ghost use Rattle.moments.specs.Moments.{part_of, seconds, exactly, with_decimals
 use byte_search::find;
 use digits::{NoNumber, decimal};
 use reason::Reason;
-use time::{Duration, Time};
-
-const MICROS: u64 = 1_000_000;
+use time::{Duration, MICROS, Time};
 
 // One microsecond in raw units.
 pub const MICROSECOND: u64 = 18446744073709;

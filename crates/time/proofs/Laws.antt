@@ -4,7 +4,7 @@
 use mathlib.Core.Path.{◌≡◌, refl, sym, ap, ◌∙◌}
 use mathlib.Core.Bool.{Bool, true, false, not, ◌&&◌, ◌||◌, cond}
 use Prim.Native.Nat.{ℕ, suc, ◌+◌, ◌-◌, ◌*◌, ◌^◌, ◌<◌, ◌≤◌, ◌/◌, ◌%◌, max}
-use native.Mathlib.Nat.{add-mul, add-mul-div_right, add-sub_cancel_left, mul-le-mul_right, suc-mul, lt_of_not-le, le_of_suc-le-suc, le_of_lt, max-eq_left, max-eq_right, sub-eq-zero_of_le}
+use native.Mathlib.Nat.{add-mul, add-mul-div_right, add-sub_cancel_left, mul-le-mul_right, suc-mul, le_of_lt, max-eq_left, max-eq_right, sub-eq-zero_of_le}
 use native.Mathlib.Omega.{arith}
 use lib.Arith.{digits_lt}
 use lib.Pow.{high, low, split}
@@ -28,12 +28,6 @@ module _ (w a b c d : ℕ) where
   lower-le : a ≡ c → d ≤ b → c * w + d ≤ a * w + b
   lower-le e h = rw e (omega arith)
 
-  upper-le : a * w + b ≤ c * w + d → d < w → a ≤ c
-  upper-le h k = le_of_suc-le-suc (lt_of_not-le (λ l. let m : suc c * w ≤ a * w = mul-le-mul_right w l in omega (arith, suc-mul c w)))
-
-  borrowed : a * w + b ≤ c * w + d → d < b → a < c
-  borrowed h k = lt_of_not-le (λ l. omega (arith, mul-le-mul_right w l))
-
 -- the order of two numbers is that of the upper halves, and of the lower ones where those are equal
 halves-ltb : (w a b c d : ℕ) → b < w → d < w → (ltb a c || (eqb a c && ltb b d)) ≡ ltb (a * w + b) (c * w + d)
 halves-ltb w a b c d h k = by (ltb a c) (eqb a c) (ltb b d) refl refl refl
@@ -55,6 +49,10 @@ halves-over w a b c d k h l = omega (arith, mul-le-mul_right w h, add-mul (a + c
 -- and is not where the upper half can still grow by one
 halves-room : (w a b y : ℕ) → suc a < w → b < w → y < w → a * w + b + y < w * w
 halves-room w a b y h k l = omega (arith, mul-le-mul_right w h, suc-mul (suc a) w, suc-mul a w)
+
+-- a number is no greater than another where its upper half is below the other's, k, 0 or 1, being borrowed
+halves-under : (w a b c d y k : ℕ) → a < c + k → y + d ≡ b + k * w → y < w → a * w + b ≤ c * w + d
+halves-under w a b c d y k h e l = omega (arith, mul-le-mul_right w h, suc-mul a w, add-mul c k w)
 
 -- a number and its halves
 pub raw-instant : (n : ℕ) → raw (instant n) ≡ n
@@ -135,22 +133,16 @@ derived-leb s t h k = by (ordering_then (nat_cmp s.0 t.0) (nat_cmp s.1 t.1)) ∙
     by Equal = refl
     by Greater = refl
 
--- what a test by a function that answers `ltb a b` shows
-pub tested : {r : Bool} (a b : ℕ) → r ≡ ltb a b → r ≡ true → a < b
-tested a b e t = ltb-true a b (sym e ∙ t)
-
-pub refused : {r : Bool} (a b : ℕ) → r ≡ ltb a b → r ≡ false → b ≤ a
-refused a b e t = ltb-false a b (sym e ∙ t)
-
--- the earlier of two instants has no more seconds, and fewer where its fraction is the greater
-module _ (s t : Time) where
-  pub seconds-le : raw s ≤ raw t → t.1 < 2 ^ 64 → s.0 ≤ t.0
-  unfolding raw
-  seconds-le = upper-le (2 ^ 64) s.0 s.1 t.0 t.1
-
-  pub seconds-lt : raw s ≤ raw t → t.1 < s.1 → s.0 < t.0
-  unfolding raw
-  seconds-lt = borrowed (2 ^ 64) s.0 s.1 t.0 t.1
+-- the greater of two instants by that order is the later one
+pub derived-later : (s t : Time) → s.1 < 2 ^ 64 → t.1 < 2 ^ 64 → cond (is_lt (ordering_then (nat_cmp t.0 s.0) (nat_cmp t.1 s.1))) s t ≡ later s t
+unfolding later
+derived-later s t h k = rw (derived-ltb t s k h) (by (ltb (raw t) (raw s)) (ltb (raw s) (raw t)) refl refl)
+  where
+    by : (p q : Bool) → ltb (raw t) (raw s) ≡ p → ltb (raw s) (raw t) ≡ q → cond p s t ≡ cond q t s
+    by true true e f = absurd (omega (arith, ltb-true _ _ e, ltb-true _ _ f))
+    by true false e f = refl
+    by false true e f = refl
+    by false false e f = same-raw t s k h (omega (arith, ltb-false _ _ e, ltb-false _ _ f))
 
 pub zero-eqb : (d : Duration) → (eqb d.0 0 && eqb d.1 0) ≡ eqb (span d) 0
 unfolding span
@@ -170,9 +162,10 @@ pub is-since : (now from : Time) (d : Duration) (k : ℕ) → d.1 < 2 ^ 64 → n
 unfolding since
 is-since now from d k h e f = sym (rw (sum from d now k e f, add-sub_cancel_left) (duration-span d h))
 
-pub no-since : (now from : Time) → raw now ≤ raw from → ◌≡◌ {A = Duration} (record { 0 = 0; 1 = 0 }) (since now from)
-unfolding since duration
-no-since now from h = rw (sub-eq-zero_of_le h)
+-- where more is taken away than there is, nothing is left
+pub not-since : (now from : Time) (y k : ℕ) → now.0 < from.0 + k → y + from.1 ≡ now.1 + k * 2 ^ 64 → y < 2 ^ 64 → ◌≡◌ {A = Duration} (record { 0 = 0; 1 = 0 }) (since now from)
+unfolding since duration raw
+not-since now from y k h e l = rw (sub-eq-zero_of_le (halves-under (2 ^ 64) now.0 now.1 from.0 from.1 y k h e l))
 
 pub raw-fits : (t : Time) → t.0 < 2 ^ 64 → t.1 < 2 ^ 64 → raw t < 2 ^ 128
 unfolding raw

@@ -17,7 +17,8 @@ pub struct Time(pub u64, pub u64);
 #[derive(Clone, Copy, Debug, PartialEq, Eq, PartialOrd, Ord)]
 pub struct Duration(pub u64, pub u64);
 
-const MICROS: u64 = 1_000_000;
+// Microseconds in a second.
+pub const MICROS: u64 = 1_000_000;
 
 impl Time {
     // Whether this instant is earlier than another.
@@ -38,25 +39,16 @@ impl Time {
     pub fn max(self, other: Time) -> Time
         ensures { result ≡ later self other }
     {
-        if self < other { other } else { self }
+        Ord::max(self, other)
     }
 
     // The instant a length of time after this one, or none where it would pass the last instant.
     pub fn checked_add(self, d: Duration) -> Option<Time>
         ensures { result ≡ added self d }
     {
-        let low = u64::MAX - self.1;
-        let high = u64::MAX - self.0;
-        if high < d.0 {
-            return None;
-        }
-        if low < d.1 {
-            if high == d.0 {
-                return None;
-            }
-            return Some(Time(self.0 + d.0 + 1, d.1 - (low + 1)));
-        }
-        Some(Time(self.0 + d.0, self.1 + d.1))
+        let (low, carry) = self.1.carrying_add(d.1, false);
+        let (high, over) = self.0.carrying_add(d.0, carry);
+        if over { None } else { Some(Time(high, low)) }
     }
 
     // This instant as an accepted time: none in the last second.
@@ -73,13 +65,13 @@ impl Time {
     pub fn since(self, from: Time) -> Duration
         ensures { result ≡ since self from }
     {
-        if self.earlier(from) {
-            return Duration(0, 0);
+        let (low, borrow) = self.1.borrowing_sub(from.1, false);
+        let (high, below) = self.0.borrowing_sub(from.0, borrow);
+        if below {
+            Duration(0, 0)
+        } else {
+            Duration(high, low)
         }
-        if self.1 < from.1 {
-            return Duration(self.0 - from.0 - 1, u64::MAX - (from.1 - self.1) + 1);
-        }
-        Duration(self.0 - from.0, self.1 - from.1)
     }
 }
 

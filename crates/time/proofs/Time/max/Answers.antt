@@ -1,14 +1,9 @@
--- `time::Time::max` meets its contract: its test is that of `later`. Assumes nothing.
+-- `time::Time::max` meets its contract: the derived order is that of the raw units, and instants of as many units are one.
+-- Assumes nothing.
 use Rattle.std.proofs.Common.{rules}
-use Rattle.time.specs.Raw.{later}
-use Rattle.time.proofs.Laws.{derived-ltb}
+use Rattle.time.proofs.Laws.{derived-later}
 use native.Mathlib.Omega.{arith}
 use Rattle.time.proofs.Time.max.Goals as goal
 
-pub returns-then-lt : goal.returns-then-lt
-unfolding later
-returns-then-lt c = let x = c.args in rw (← derived-ltb x.self x.other (omega arith) (omega arith)) (search rules)
-
-pub returns-else-lt : goal.returns-else-lt
-unfolding later
-returns-else-lt c = let x = c.args in rw (← derived-ltb x.self x.other (omega arith) (omega arith)) (search rules)
+pub returns : goal.returns
+returns c = let x = c.args in rw (← derived-later x.self x.other (omega arith) (omega arith)) (search rules)
