@@ -8,9 +8,6 @@ ghost use Rattle.time.specs.Raw.{span};
 use cell::{Direction, FULL, PAGE, PAGE_CELLS};
 use time::Duration;
 
-// The most by which an exposure can move a charge.
-const MOST: u64 = u64::MAX;
-
 // By how much a pulse moves a cell in a raw unit of time.
 fn rate(direction: Direction) -> u64
     ensures { result ≡ rate direction }
@@ -25,14 +22,10 @@ fn rate(direction: Direction) -> u64
 fn amount(direction: Direction, exposure: Duration) -> u64
     ensures { result ≡ min (rate direction * span exposure) (2 ^ 64 - 1) }
 {
-    let each = rate(direction);
     if exposure.0 != 0 {
-        return MOST;
+        return u64::MAX;
     }
-    if MOST / each < exposure.1 {
-        return MOST;
-    }
-    each * exposure.1
+    rate(direction).saturating_mul(exposure.1)
 }
 
 // A cell's charge moved by an amount; `latched` is the cell's latched bit. From which charge on a cell gets full depends on the amount alone,
@@ -54,12 +47,7 @@ fn moved(direction: Direction, latched: u8, amount: u64, q: u64) -> u64
             }
             q + amount
         }
-        Direction::Erase => {
-            if q <= amount {
-                return 0;
-            }
-            q - amount
-        }
+        Direction::Erase => q.saturating_sub(amount),
     }
 }
 

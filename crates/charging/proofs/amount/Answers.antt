@@ -1,29 +1,32 @@
--- `charging::amount` meets its contract: each return is one case of the clipped amount.
+-- `charging::amount` meets its contract: a second or more moves a cell further than 64 bits; the raw units of less are the fraction.
 -- Assumes nothing.
+use mathlib.Core.Path.{◌≡◌, sym}
+use Prim.Native.Nat.{ℕ, ◌+◌, ◌-◌, ◌*◌, ◌^◌, ◌<◌, ◌≤◌}
+use native.Mathlib.Nat.{min-eq_right, mul-le-mul_right, one-mul}
 use native.Mathlib.Omega.{arith}
-use Rattle.cell.proofs.Amount.{rate-some, amount-long, amount-past, amount-fits, amount-within}
+use Rattle.time.specs.Raw.{span}
+use Rattle.cell.specs.Cell.{rate}
+use Rattle.cell.specs.declared.Direction.{Direction}
+use Rattle.cell.specs.declared.Direction.TheVariants.{Program, Erase}
 use Rattle.charging.proofs.amount.Goals as goal
 
+some : (d : Direction) → 0 < rate d
+some Program = omega arith
+some Erase = omega arith
+
+-- over any width, since omega takes no number of 39 digits
+passes : (r h l w : ℕ) → 0 < r → 0 < h → w - 1 ≤ r * (h * w + l)
+passes r h l w m n =
+    omega (arith, one-mul w, mul-le-mul_right {m = 1} {n = h} w n, one-mul (h * w + l), mul-le-mul_right {m = 1} {n = r} (h * w + l) m)
+
 pub returns-then-exposure-ne0 : goal.returns-then-exposure-ne0
+unfolding span
 returns-then-exposure-ne0 c =
-    let x = c.args in
-    amount-long x.direction x.exposure _ c.rate-each.ensures c.if-exposure-ne0.true
-
-pub nonzero_div-each : goal.nonzero_div-each
-nonzero_div-each c = rate-some _ c.args.direction c.rate-each.ensures
-
-pub returns-then-each-exposure : goal.returns-then-each-exposure
-returns-then-each-exposure c =
-    let x = c.args in
-    amount-past x.direction x.exposure _ c.rate-each.ensures c.if-exposure-ne0.false c.if-each-exposure.true
-
-pub overflow_mul-result : goal.overflow_mul-result
-overflow_mul-result c =
-    let x = c.args in
-    omega (arith, amount-fits x.direction x.exposure _ c.rate-each.ensures c.if-each-exposure.false)
+    let x = c.args in sym (min-eq_right (passes (rate x.direction) x.exposure.0 x.exposure.1 (2 ^ 64) (some x.direction) (omega arith)))
 
 pub returns : goal.returns
+unfolding span
 returns c =
-    let x = c.args in
-    amount-within x.direction x.exposure _ c.rate-each.ensures c.if-exposure-ne0.false
-    c.if-each-exposure.false
+    let e = c.args.exposure in
+    let short : e.0 * 2 ^ 64 + e.1 ≡ e.1 = omega arith in
+    rw (c.saturating_mul.ensures, c.rate.ensures, short)
