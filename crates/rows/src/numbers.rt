@@ -48,7 +48,6 @@ impl Number for u8 {
     }
 }
 
-// Each greater width is two of the half.
 impl Number for u16 {
     ghost WIDTH = { 2 };
 
@@ -61,16 +60,13 @@ impl Number for u16 {
     const WIDTH: usize = 2;
 
     fn get(from: &[u8], at: usize) -> u16 {
-        u16::from(from[at]) + 256 * u16::from(from[at + 1])
+        u16::from_le_bytes(*from[at..].first_chunk().unwrap())
     }
 
     fn put(self, to: &mut [u8], at: usize) {
-        to[at] = (self % 256) as u8;
-        to[at + 1] = (self / 256) as u8;
+        to[at..at + 2].copy_from_slice(&self.to_le_bytes());
     }
 }
-
-const LOW_16: u32 = 65536;
 
 impl Number for u32 {
     ghost WIDTH = { 4 };
@@ -84,20 +80,13 @@ impl Number for u32 {
     const WIDTH: usize = 4;
 
     fn get(from: &[u8], at: usize) -> u32 {
-        let low = u16::get(from, at);
-        let high = u16::get(from, at + 2);
-        u32::from(low) + LOW_16 * u32::from(high)
+        u32::from_le_bytes(*from[at..].first_chunk().unwrap())
     }
 
     fn put(self, to: &mut [u8], at: usize) {
-        let low = (self % LOW_16) as u16;
-        let high = (self / LOW_16) as u16;
-        low.put(to, at);
-        high.put(to, at + 2);
+        to[at..at + 4].copy_from_slice(&self.to_le_bytes());
     }
 }
-
-const LOW_32: u64 = 4294967296;
 
 impl Number for u64 {
     ghost WIDTH = { 8 };
@@ -111,15 +100,10 @@ impl Number for u64 {
     const WIDTH: usize = 8;
 
     fn get(from: &[u8], at: usize) -> u64 {
-        let low = u32::get(from, at);
-        let high = u32::get(from, at + 4);
-        u64::from(low) + LOW_32 * u64::from(high)
+        u64::from_le_bytes(*from[at..].first_chunk().unwrap())
     }
 
     fn put(self, to: &mut [u8], at: usize) {
-        let low = (self % LOW_32) as u32;
-        let high = (self / LOW_32) as u32;
-        low.put(to, at);
-        high.put(to, at + 4);
+        to[at..at + 8].copy_from_slice(&self.to_le_bytes());
     }
 }

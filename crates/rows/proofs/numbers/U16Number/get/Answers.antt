@@ -1,10 +1,11 @@
--- A `u16` is two numbers of one byte side by side.
+-- A `u16` is what its two bytes are worth.
 -- Assumes nothing.
-use Prim.Native.Nat.{◌+◌}
-use mathlib.Core.Path.{sym}
-use Rattle.layout.proofs.Widths.{word-one, word_split}
+use native.Mathlib.Omega.{arith}
+use Rattle.rows.proofs.Bytes.{first-worth}
 use Rattle.rows.proofs.numbers.U16Number.get.Goals as goal
 
 pub returns : goal.returns
 returns c =
-    let x = c.args in rw (c.from-2.ensures, c.from.ensures) (sym (rw (word-one x.from.now x.at, word-one x.from.now (x.at + 1)) at (word_split 1 1 x.from.now x.at)))
+    let x = c.args in
+    let chunk = rw c.unwrap.ensures at c.first_chunk.ensures.cases in
+    rw c.from_le_bytes.ensures (first-worth x.from.now c.unwrap.result.now x.at 1 chunk.same (omega arith))

@@ -1,10 +1,10 @@
--- Of a `u32` the low half is written, then the high half.
+-- A `u32` is written as its four bytes.
 -- Assumes nothing.
-use Prim.Native.Nat.{◌%◌, ◌/◌}
-use Rattle.layout.proofs.Runs.{put_two}
 use native.Mathlib.Omega.{arith}
+use Rattle.rows.proofs.Bytes.{put-low}
 use Rattle.rows.proofs.numbers.U32Number.put.Goals as goal
 
 pub returns : goal.returns
 returns c =
-    let x = c.args in put_two 2 2 x.at x.self (x.self % 65536) (x.self / 65536) x.to.now c.put.new.to c.put-2.new.to c.put.ensures c.put-2.ensures (omega arith) (omega arith)
+    let x = c.args in
+    rw c.copy_from_slice.ensures.after (put-low x.to.now c.to_le_bytes.result x.at 4 x.self (omega arith) c.to_le_bytes.ensures)

@@ -1,9 +1,11 @@
--- A `u64` is two numbers of four bytes side by side.
+-- A `u64` is what its eight bytes are worth.
 -- Assumes nothing.
-use mathlib.Core.Path.{sym}
-use Rattle.layout.proofs.Widths.{word_split}
+use native.Mathlib.Omega.{arith}
+use Rattle.rows.proofs.Bytes.{first-worth}
 use Rattle.rows.proofs.numbers.U64Number.get.Goals as goal
 
 pub returns : goal.returns
 returns c =
-    let x = c.args in rw (c.from-2.ensures, c.from.ensures, c.get-high.ensures, c.get-low.ensures) (sym (word_split 4 4 x.from.now x.at))
+    let x = c.args in
+    let chunk = rw c.unwrap.ensures at c.first_chunk.ensures.cases in
+    rw c.from_le_bytes.ensures (first-worth x.from.now c.unwrap.result.now x.at 7 chunk.same (omega arith))
