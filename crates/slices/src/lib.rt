@@ -1,21 +1,18 @@
 // Parts of slices that are there for any numbers.
 #![tactic(auto)]
 
-ghost use Rattle.std.specs.Prelude.{◌≡◌, take};
+ghost use Rattle.std.specs.Prelude.{◌≡◌, ◌-◌, ◌&&◌, [], cond, drop, leb, length, take};
 
-// The first n bytes of a slice, all of it where it has fewer.
-pub fn first(bytes: &[u8], n: usize) -> &[u8]
-    ensures { result.now ≡ take n bytes.now }
+// The first n items of a slice, all of them where it has fewer.
+pub fn first<T>(items: &[T], n: usize) -> &[T]
+    ensures { result.now ≡ take n items.now }
 {
-    if n <= bytes.len() { &bytes[..n] } else { bytes }
+    &items[..n.min(items.len())]
 }
 
 // The bytes from one place up to another, none where there are no such places: columns of a line that is told of after it was read.
-pub fn part(bytes: &[u8], from: usize, to: usize) -> &[u8] {
-    if from <= to {
-        if to <= bytes.len() {
-            return &bytes[from..to];
-        }
-    }
-    &bytes[..0]
+pub fn part(bytes: &[u8], from: usize, to: usize) -> &[u8]
+    ensures { result.now ≡ cond (leb from to && leb to (length bytes.now)) (take (to - from) (drop from bytes.now)) [] }
+{
+    bytes.get(from..to).unwrap_or(&[])
 }
