@@ -83,8 +83,8 @@ reader_at d p line = record {
   desk = d;
   before = p.before;
   lines = p.lines;
-  line = take p.length line;
-  long = p.long;
+  line = take p.line.length line;
+  long = p.line.long;
 }
 
 -- the desk, once the calls that wait are run and the line that is due is done

@@ -59,15 +59,23 @@ pub struct Noted {
     pub end: usize,
 }
 
+// The line so far: how many of its bytes are kept, and whether it is too long.
+#[derive(Clone, Copy)]
+pub struct LineSoFar {
+    pub length: usize,
+    pub long: bool,
+    pub ghost fits: { length ≤ longest },
+}
+
 // Where a run stands in its text. No call is due, since calls wait. While none of them is run, another may wait and no line is due.
+// How much of a Backlog is in use stands here and not in it: the definitions of a run's steps go by a place, a value; a Backlog is lent memory.
 #[derive(Clone, Copy)]
 pub struct Place {
     // The time that a `+` counts from, and how many lines were read.
     pub before: Option<Time>,
     pub lines: u64,
-    // The bytes of a line that is not yet read whole, and whether it is too long.
-    pub length: usize,
-    pub long: bool,
+    // The line that is not yet read whole.
+    pub line: LineSoFar,
     // How many calls were read since calls were run last, and the first of them that is not yet run.
     pub waiting: usize,
     pub next: usize,
@@ -77,7 +85,6 @@ pub struct Place {
     pub running: bool,
     // The next byte of the piece.
     pub at: usize,
-    pub ghost line_fits: { length ≤ longest },
     pub ghost calls_fit: { waiting ≤ room },
     pub ghost run_so_far: { next ≤ waiting },
     pub ghost due_no_call: { calls_of due ≡ [] },

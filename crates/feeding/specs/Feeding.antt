@@ -1,7 +1,7 @@
 -- The bytes of a piece are moved to the line, up to the line's end or the piece's. docs/HISTORY-FORMAT.md. Assumes nothing.
-use Rattle.std.specs.Prelude.{ℕ, suc, ◌+◌, ◌-◌, ◌≤◌, ◌<◌, Bool, cond, List, ◌≡◌, ltb, length, take, drop}
+use Rattle.std.specs.Prelude.{ℕ, suc, ◌+◌, ◌-◌, ◌≤◌, ◌<◌, cond, List, ◌≡◌, ltb, length, take, drop}
 use Rattle.byte_search.specs.Search.{index_of}
-use Rattle.course.specs.Bounds.{longest}
+use Rattle.course.specs.declared.LineSoFar.{LineSoFar}
 use Rattle.course.specs.declared.Manner.{Manner}
 use Rattle.course.specs.declared.Place.{Place}
 use Rattle.course.specs.Desk.{Desk}
@@ -16,21 +16,21 @@ between from to bs = take (to - from) (drop from bs)
 abbrev pub line_end : List ℕ → ℕ → ℕ
 line_end piece at = at + index_of newline (drop at piece)
 
--- a place with so many bytes of its line, whether it is too long, and the next byte of the piece; the rest is its own
-abbrev pub fed_to : (length : ℕ) → length ≤ longest → Bool → ℕ → Place → Place
-fed_to length fits long at p = record p { length = length; long = long; at = at; line_fits = fits }
+-- a place with a line so far and the next byte of the piece; the rest is its own
+abbrev pub fed_to : LineSoFar → ℕ → Place → Place
+fed_to line at p = record p { line = line; at = at }
 
--- What is fed from a place on: the piece, the line's slice as it was and as it is left.
-pub record Feeds (p : Place) (piece line left : List ℕ) (fed : Fed) : Type 0 where
+-- What is fed to a line so far, from a byte of the piece on: the piece, the line's slice as it was and as it is left.
+pub record Feeds (l : LineSoFar) (at : ℕ) (piece line left : List ℕ) (fed : Fed) : Type 0 where
   -- the line has ended if its newline is in the piece, and the next byte is the one after it
-  pub ended_is : fed.ended ≡ ltb (line_end piece p.at) (length piece)
-  pub at_is : fed.place.at ≡ cond fed.ended (suc (line_end piece p.at)) (length piece)
-  pub onward : p.at < fed.place.at
-  pub inside : fed.place.at ≤ length piece
-  pub others_are : fed.place ≡ fed_to fed.place.length fed.place.line_fits fed.place.long fed.place.at p
-  -- the line's bytes are kept
-  pub kept : (w : Manner) (d : Desk) → all_read w (between p.at (line_end piece p.at) piece) (reader_at d p line) ≡ reader_at d fed.place left
+  pub ended_is : fed.ended ≡ ltb (line_end piece at) (length piece)
+  pub at_is : fed.at ≡ cond fed.ended (suc (line_end piece at)) (length piece)
+  pub onward : at < fed.at
+  pub inside : fed.at ≤ length piece
+  -- the line's bytes are kept, wherever else a run stands
+  pub kept : (w : Manner) (d : Desk) (p : Place)
+      → all_read w (between at (line_end piece at) piece) (reader_at d (fed_to l at p) line) ≡ reader_at d (fed_to fed.line fed.at p) left
   -- so all that were passed are read, once the line is done if it has ended
-  pub reads : (w : Manner) (d : Desk)
-      → all_read w (between p.at fed.place.at piece) (reader_at d p line)
-      ≡ cond fed.ended (line_ended w (reader_at d fed.place left)) (reader_at d fed.place left)
+  pub reads : (w : Manner) (d : Desk) (p : Place)
+      → all_read w (between at fed.at piece) (reader_at d (fed_to l at p) line)
+      ≡ cond fed.ended (line_ended w (reader_at d (fed_to fed.line fed.at p) left)) (reader_at d (fed_to fed.line fed.at p) left)

@@ -4,52 +4,53 @@
 ghost use Rattle.std.specs.Prelude.{◌≡◌, ◌-◌, ◌<◌, ◌||◌, ltb, length};
 ghost use Rattle.text.specs.Puts.{Puts};
 ghost use Rattle.course.specs.Bounds.{longest};
-ghost use Rattle.feeding.specs.Feeding.{fed_to, Feeds};
+ghost use Rattle.feeding.specs.Feeding.{Feeds};
 
 use byte_search::find;
-use course::Place;
+use course::LineSoFar;
 use course::memory::{Bytes, LONGEST};
 use text::Text;
 
-// Where a run stands then, and whether the line ended. Each of the two has a place, so an enum would be no plainer.
+// The line then, the next byte of the piece, and whether the line ended. Each of the two has all of them, so an enum would be no plainer.
 #[derive(Clone, Copy)]
 pub struct Fed {
-    pub place: Place,
+    pub line: LineSoFar,
+    pub at: usize,
     pub ended: bool,
 }
 
-// The bytes go behind those that the line has. What has no room there makes it too long; the next byte of the piece is given.
-fn put(place: Place, bytes: &[u8], line: &mut Bytes, next: usize) -> Place
-    ensures is { result ≡ fed_to result.length result.line_fits (place.long || ltb (longest - place.length) (length bytes.now)) next place }
-    ensures put { Puts bytes.now place.length line.old line.new result.length }
+// The bytes go behind those that the line has. What has no room there makes it too long.
+fn put(so_far: LineSoFar, bytes: &[u8], line: &mut Bytes) -> LineSoFar
+    ensures long_is { result.long ≡ (so_far.long || ltb (longest - so_far.length) (length bytes.now)) }
+    ensures put { Puts bytes.now so_far.length line.old line.new result.length }
 {
-    let before = place.length;
+    let before = so_far.length;
     let mut text = Text {
         out: line,
         at: before,
     };
     text.put_text(bytes);
-    let mut p = place;
-    p.length = text.at;
-    p.long = p.long || LONGEST - before < bytes.len();
-    p.at = next;
-    p
+    LineSoFar {
+        length: text.at,
+        long: so_far.long || LONGEST - before < bytes.len(),
+    }
 }
 
 // The bytes go to the line up to its end, or up to the piece's.
-pub fn feed(place: Place, piece: &[u8], line: &mut Bytes) -> Fed
-    requires { place.at < length piece.now }
-    ensures { Feeds place piece.now line.old line.new result }
+pub fn feed(so_far: LineSoFar, piece: &[u8], at: usize, line: &mut Bytes) -> Fed
+    requires { at < length piece.now }
+    ensures { Feeds so_far at piece.now line.old line.new result }
 {
-    let at = place.at;
     let left = &piece[at..];
     match find(left, b'\n') {
         Some(end) => Fed {
-            place: put(place, &left[..end], line, at + end + 1),
+            line: put(so_far, &left[..end], line),
+            at: at + end + 1,
             ended: true,
         },
         None => Fed {
-            place: put(place, left, line, piece.len()),
+            line: put(so_far, left, line),
+            at: piece.len(),
             ended: false,
         },
     }

@@ -59,8 +59,8 @@ pub record WithPiece (have : ℕ) (r r' : Run) : Type 0 where
   pub course_is : r'.course ≡ r.course
   pub before_is : r'.place.before ≡ r.place.before
   pub lines_are : r'.place.lines ≡ r.place.lines
-  pub length_is : r'.place.length ≡ r.place.length
-  pub long_is : r'.place.long ≡ r.place.long
+  pub length_is : r'.place.line.length ≡ r.place.line.length
+  pub long_is : r'.place.line.long ≡ r.place.line.long
   pub calls_wait : r'.place.waiting ≡ r.place.waiting
   pub next_is : r'.place.next ≡ r.place.next
   pub due_is : r'.place.due ≡ r.place.due

@@ -9,7 +9,7 @@ ghost use Rattle.session.specs.Going.{Begins, ReadWhole};
 use crate::run::Run;
 use crate::turns::take_turns;
 use course::memory::{Backlog, Buffer, Events, LONGEST, NUMBERS, ROOM};
-use course::{Course, Manner, Place};
+use course::{Course, LineSoFar, Manner, Place};
 use grammar::Line;
 use lent::memory::LentMut;
 use std::io;
@@ -38,8 +38,10 @@ fn beginning(course: Course) -> Run
         place: Place {
             before: None,
             lines: 0,
-            length: 0,
-            long: false,
+            line: LineSoFar {
+                length: 0,
+                long: false,
+            },
             waiting: 0,
             next: 0,
             due: Line::Nothing,

@@ -41,12 +41,12 @@ more-lines {p} {q} {r} {piece = piece} g h = record {
 
 -- another call may wait where none is run
 pub reading : (p : Place) → p.running ≡ false → Reading p
-reading p h = record { fits = p.line_fits; has_room = p.has_room h; none_run = p.none_run h; none_due = p.none_due h }
+reading p h = record { fits = p.line.fits; has_room = p.has_room h; none_run = p.none_run h; none_due = p.none_due h }
 
 -- what a place keeps is what a run needs of it
 pub place-sound : (p : Place) → Sound p
 place-sound p = record {
-  line_fits = p.line_fits;
+  line_fits = p.line.fits;
   calls_fit = p.calls_fit;
   run_so_far = p.run_so_far;
   due_no_call = p.due_no_call;

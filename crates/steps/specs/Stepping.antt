@@ -17,7 +17,7 @@ use Rattle.taking.specs.Taking.{Reading}
 
 -- A place that a run comes to: every place is sound.
 pub record Sound (p : Place) : Type 0 where
-  pub line_fits : p.length ≤ longest
+  pub line_fits : p.line.length ≤ longest
   pub calls_fit : p.waiting ≤ room
   pub run_so_far : p.next ≤ p.waiting
   pub due_no_call : calls_of p.due ≡ []
@@ -27,8 +27,8 @@ pub record Sound (p : Place) : Type 0 where
 pub record Awaits (p : Place) (waiting next : ℕ) (due : Line) (running : Bool) (p' : Place) : Type 0 where
   pub before_is : p'.before ≡ p.before
   pub lines_are : p'.lines ≡ p.lines
-  pub length_is : p'.length ≡ p.length
-  pub long_is : p'.long ≡ p.long
+  pub length_is : p'.line.length ≡ p.line.length
+  pub long_is : p'.line.long ≡ p.line.long
   pub calls_wait : p'.waiting ≡ waiting
   pub next_is : p'.next ≡ next
   pub due_is : p'.due ≡ due

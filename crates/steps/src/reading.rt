@@ -14,10 +14,12 @@ fn read_on(place: Place, piece: &[u8], backlog: &mut Backlog) -> Place
     requires { (place.running ≡ false) × (place.at < length piece.now) }
     ensures { (place.at < result.at) × Reads place backlog.old piece.now result backlog.new }
 {
-    let fed = feed(place, piece, &mut backlog.line);
-    let p = fed.place;
+    let fed = feed(place.line, piece, place.at, &mut backlog.line);
+    let mut p = place;
+    p.line = fed.line;
+    p.at = fed.at;
     if fed.ended {
-        return take_line(p, &backlog.line, &mut backlog.calls, &mut backlog.numbers);
+        return take_line(p, backlog);
     }
     p
 }
@@ -48,14 +50,9 @@ pub fn close(place: Place, backlog: &mut Backlog) -> Place
     requires { place.running ≡ false }
     ensures { Closes place backlog.old result backlog.new }
 {
-    if place.length == 0 {
+    if backlog.line[..place.line.length].is_empty() {
         to_run(place)
     } else {
-        to_run(take_line(
-            place,
-            &backlog.line,
-            &mut backlog.calls,
-            &mut backlog.numbers,
-        ))
+        to_run(take_line(place, backlog))
     }
 }

@@ -64,7 +64,7 @@ pub ruleset places = (no_call, has-room, not-due)
 
 module _ (p : Place) (line calls numbers : List ℕ) (r : Reading p) where
   abbrev whole : List ℕ
-  whole = take p.length line
+  whole = take p.line.length line
 
   abbrev n : ℕ
   n = raised p.lines 1
@@ -72,8 +72,8 @@ module _ (p : Place) (line calls numbers : List ℕ) (r : Reading p) where
   -- what is left to show is which calls wait
   placed : {b : Option Time} {k : ℕ} {l : Line} {p' : Place} {calls' numbers' : List ℕ}
       → PlacedAfter p b n k l p'
-      → b ≡ cond p.long p.before (time_after p.before whole)
-      → l ≡ cond p.long (Wrong too_long) (line_of p.before whole)
+      → b ≡ cond p.line.long p.before (time_after p.before whole)
+      → l ≡ cond p.line.long (Wrong too_long) (line_of p.before whole)
       → numbered_from k 0 calls' numbers' ≡ numbered_from p.waiting 0 calls numbers ++ numbered n (calls_of l)
       → LineTaken line p calls numbers p' calls' numbers'
   unfolding line_ended
@@ -91,14 +91,14 @@ module _ (p : Place) (line calls numbers : List ℕ) (r : Reading p) where
       minus i = omega arith
 
   -- a line that is too long leaves those that waited
-  pub unread : {p' : Place} → p.long ≡ true → PlacedAfter p p.before n p.waiting (Wrong too_long) p' → LineTaken line p calls numbers p' calls numbers
+  pub unread : {p' : Place} → p.line.long ≡ true → PlacedAfter p p.before n p.waiting (Wrong too_long) p' → LineTaken line p calls numbers p' calls numbers
   unread long a = placed a (rw long) (rw long) (sym (append-nil (numbered_from p.waiting 0 calls numbers)))
 
   -- and another has its own behind them, for which there was room
   pub fits : {l : Line} {left : Waiting} → Takes whole (waits p.before p.waiting calls) l left → left.count ≤ room
   fits t = rw t.left_is (omega (arith, one-call (line_of p.before whole)))
 
-  pub parsed : {l : Line} {left : Waiting} {p' : Place} → p.long ≡ false → length calls ≡ 3 * room → length numbers ≡ room
+  pub parsed : {l : Line} {left : Waiting} {p' : Place} → p.line.long ≡ false → length calls ≡ 3 * room → length numbers ≡ room
       → Takes whole (waits p.before p.waiting calls) l left → PlacedAfter p left.before n left.count l p'
       → LineTaken line p calls numbers p' left.calls (set numbers p.waiting n)
   parsed {l} {left} {p'} long words beside t a =

@@ -11,7 +11,7 @@ use Rattle.course.specs.Reader.{line_ended, reader_at, desk_at}
 
 -- Lines are read on: the bytes of this one lie in their slice, another call may wait, none is run yet, and no line is due.
 pub record Reading (p : Place) : Type 0 where
-  pub fits : p.length ≤ longest
+  pub fits : p.line.length ≤ longest
   pub has_room : p.waiting < room
   pub none_run : p.next ≡ 0
   pub none_due : p.due ≡ Nothing
@@ -30,8 +30,8 @@ due_of l = cond (is_due l) l Nothing
 pub record PlacedAfter (p : Place) (b : Option Time) (n k : ℕ) (line : Line) (p' : Place) : Type 0 where
   pub before_is : p'.before ≡ b
   pub lines_are : p'.lines ≡ n
-  pub line_empty : p'.length ≡ 0
-  pub line_short : p'.long ≡ false
+  pub line_empty : p'.line.length ≡ 0
+  pub line_short : p'.line.long ≡ false
   pub calls_wait : p'.waiting ≡ k
   pub none_run : p'.next ≡ 0
   pub due_is : p'.due ≡ due_of line
@@ -44,5 +44,5 @@ pub record LineTaken (line : List ℕ) (p : Place) (calls numbers : List ℕ) (p
   pub reader_is : (w : Manner) (d : Desk)
       → reader_at (desk_at w p' calls' numbers' d) p' line ≡ line_ended w (reader_at (desk_at w p calls numbers d) p line)
   pub at_is : p'.at ≡ p.at
-  pub line_empty : p'.length ≡ 0
+  pub line_empty : p'.line.length ≡ 0
   pub none_run : p'.next ≡ 0

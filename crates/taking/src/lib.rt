@@ -5,8 +5,8 @@ ghost use Rattle.std.specs.Prelude.{◌≡◌, ◌≤◌};
 ghost use Rattle.course.specs.Bounds.{room};
 ghost use Rattle.taking.specs.Taking.{Reading, LineTaken, is_due, due_of, PlacedAfter};
 
-use course::memory::{Bytes, Calls, Numbers, ROOM};
-use course::{Place, more};
+use course::memory::{Backlog, ROOM};
+use course::{LineSoFar, Place, more};
 use fields::Fault;
 use grammar::Line;
 use history::take;
@@ -17,23 +17,13 @@ use time::Time;
 fn is_due(line: Line) -> bool
     ensures { result ≡ is_due line }
 {
-    match line {
-        Line::Nothing => false,
-        Line::Call(_, _) => false,
-        Line::Look(_, _) => true,
-        Line::Wrong(_) => true,
-    }
+    matches!(line, Line::Look(_, _) | Line::Wrong(_))
 }
 
 fn due_of(line: Line) -> Line
     ensures { result ≡ due_of line }
 {
-    match line {
-        Line::Nothing => Line::Nothing,
-        Line::Call(_, _) => Line::Nothing,
-        Line::Look(_, _) => line,
-        Line::Wrong(_) => line,
-    }
+    if is_due(line) { line } else { Line::Nothing }
 }
 
 // The place after a line, with its number and the calls that wait then.
@@ -46,8 +36,10 @@ fn place_after(place: Place, before: Option<Time>, lines: u64, waiting: usize, l
     Place {
         before,
         lines,
-        length: 0,
-        long: false,
+        line: LineSoFar {
+            length: 0,
+            long: false,
+        },
         waiting,
         next: 0,
         due,
@@ -57,14 +49,15 @@ fn place_after(place: Place, before: Option<Time>, lines: u64, waiting: usize, l
 }
 
 // A line was read whole. One that is too long is not parsed, and its time does not count.
-pub fn take_line(place: Place, line: &Bytes, calls: &mut Calls, numbers: &mut Numbers) -> Place
+pub fn take_line(place: Place, backlog: &mut Backlog) -> Place
     requires { Reading place }
-    ensures { LineTaken line.now place calls.old numbers.old result calls.new numbers.new }
+    ensures same_line { backlog.new.line ≡ backlog.old.line }
+    ensures taken { LineTaken backlog.old.line place backlog.old.calls backlog.old.numbers result backlog.new.calls backlog.new.numbers }
 {
     let before = place.before;
     let lines = more(place.lines, 1);
     let waiting = place.waiting;
-    if place.long {
+    if place.line.long {
         let wrong = Line::Wrong(Fault {
             reason: Reason::TooLong,
             from: 0,
@@ -72,7 +65,12 @@ pub fn take_line(place: Place, line: &Bytes, calls: &mut Calls, numbers: &mut Nu
         });
         return place_after(place, before, lines, waiting, wrong);
     }
-    let length = place.length;
+    let Backlog {
+        calls,
+        numbers,
+        line,
+    } = backlog;
+    let length = place.line.length;
     let bytes: &[u8] = line;
     let taken = take(&bytes[..length], before, calls, waiting);
     let beside: &mut [u64] = numbers;

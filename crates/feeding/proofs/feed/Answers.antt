@@ -5,9 +5,12 @@ use Rattle.feeding.proofs.feed.Goals as goal
 
 pub returns-in-Some : goal.returns-in-Some
 returns-in-Some c =
-    ended-at c.args.place c.put.result c.args.piece.now c.args.line.now c.put.new.line (search rules) c.args.place.line_fits (search rules) c.in-Some.end c.in-Some.ensures c.put.ensures.is c.put.ensures.put
+    let put = c.put in
+    ended-at c.args.so_far put.result c.args.at c.args.piece.now c.args.line.now put.new.line (search rules) (search rules)
+    c.in-Some.end c.in-Some.ensures put.ensures.long_is put.ensures.put
 
 pub returns-in-None : goal.returns-in-None
 returns-in-None c =
     let put = c.put-in-None in
-    more-at c.args.place put.result c.args.piece.now c.args.line.now put.new.line (search rules) c.args.place.line_fits (search rules) c.in-None.ensures put.ensures.is put.ensures.put
+    more-at c.args.so_far put.result c.args.at c.args.piece.now c.args.line.now put.new.line (search rules) (search rules)
+    c.in-None.ensures put.ensures.long_is put.ensures.put

@@ -5,18 +5,21 @@ use lib.ListN.{length-take}
 use Rattle.taking.proofs.Taken.{unread, fits, parsed}
 use Rattle.taking.proofs.take_line.Goals as goal
 
-pub returns-then-place : goal.returns-then-place
-returns-then-place c =
+pub returns-then-place-clause-taken : goal.returns-then-place-clause-taken
+returns-then-place-clause-taken c =
     unread c.args.place _ _ _ c.requires c.if-place.true (rw c.more-lines.ensures at c.place_after.ensures)
 
 pub slice_bounds-take-end : goal.slice_bounds-take-end
 slice_bounds-take-end c = simp length-take (omega arith)
 
 pub place_after-requires-2 : goal.place_after-requires-2
-place_after-requires-2 c = fits c.args.place c.args.line.now c.args.calls.now c.args.numbers.now c.requires c.take-taken.ensures
+place_after-requires-2 c =
+    let b = c.args.backlog.now in
+    fits c.args.place b.line b.calls b.numbers c.requires c.take-taken.ensures
 
-pub returns : goal.returns
-returns c =
+pub returns-clause-taken : goal.returns-clause-taken
+returns-clause-taken c =
+    let b = c.args.backlog.now in
     rw c.more-lines.ensures
-    (parsed c.args.place c.args.line.now c.args.calls.now c.args.numbers.now c.requires
+    (parsed c.args.place b.line b.calls b.numbers c.requires
     c.if-place.false (omega arith) (omega arith) c.take-taken.ensures (rw c.more-lines.ensures at c.place_after-2.ensures))
