@@ -68,7 +68,7 @@ pub struct LineSoFar {
 }
 
 // Where a run stands in its text. No call is due, since calls wait. While none of them is run, another may wait and no line is due.
-// How much of a Backlog is in use stands here and not in it: the definitions of a run's steps go by a place, a value; a Backlog is lent memory.
+// How much of a Backlog is in use stands here and not in it: the definitions of steps go by a place, a value, and a Backlog is lent.
 #[derive(Clone, Copy)]
 pub struct Place {
     // The time that a `+` counts from, and how many lines were read.

@@ -4,15 +4,14 @@
 #![tactic(auto)]
 
 ghost use Rattle.std.specs.Prelude.{◌≤◌, length};
-ghost use Rattle.lent.specs.Views.{memory_at, SameLent};
-ghost use Rattle.course.specs.Desk.{desk};
+ghost use Rattle.lent.specs.Views.{memory_at};
+ghost use Rattle.course.specs.Views.{desk_at, SameBench};
 ghost use Rattle.steps.specs.Stepping.{Steps};
 
 use crate::reading::read_lines;
 use crate::waiting::run_on;
-use course::memory::{Backlog, Events};
+use course::memory::{Backlog, Bench};
 use course::{Noted, Ongoing, Place};
-use lent::memory::LentMut;
 
 mod due;
 mod places;
@@ -27,22 +26,21 @@ pub struct Stepped {
 }
 
 // The next step: what waits is done where it is to be, else bytes of the piece are read.
+// What goes on and the place stay two: a call is noted by what goes on alone, and bytes are read by the place alone.
 #[tactic(auto, using(crate::proofs::Desks::moved))]
 pub fn step(
     ongoing: Ongoing,
     place: Place,
-    memory: &mut LentMut,
-    events: &mut Events,
+    bench: &mut Bench,
     backlog: &mut Backlog,
     piece: &[u8],
-    out: &mut [u8],
 ) -> Stepped
     requires { place.at ≤ length piece.now }
-    ensures same_lent { SameLent memory.old memory.new }
-    ensures steps { Steps ongoing.manner place backlog.old piece.now (desk ongoing.course (memory_at memory.old) events.old) result.place backlog.new result.noted (memory_at memory.new) events.new out.old out.new }
+    ensures same { SameBench bench.old bench.new }
+    ensures steps { Steps ongoing.manner place backlog.old piece.now (desk_at ongoing.course bench.old) result.place backlog.new result.noted (memory_at bench.new.memory) bench.new.events.now bench.old.out.now bench.new.out.now }
 {
     if place.running {
-        run_on(ongoing, place, memory, events, backlog, out)
+        run_on(ongoing, place, bench, backlog)
     } else {
         Stepped {
             noted: Noted {

@@ -1,4 +1,5 @@
 // The bytes of a text are read.
+// That a place is not running is asked behind one test, at each turn anew: a type for it would be taken apart again by the next match.
 ghost use Rattle.std.specs.Prelude.{◌≡◌, true, false, ◌≤◌, ◌<◌, length};
 ghost use Rattle.steps.specs.Stepping.{Reads, Closes};
 
