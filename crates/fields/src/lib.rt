@@ -1,4 +1,4 @@
-// What each word of a call means.
+// What each word of a call means. A number is narrowed where its digits bound it: two are below 2^8, four below 2^16.
 #![tactic(auto)]
 
 ghost use Rattle.std.specs.Prelude.{◌≡◌, ◌<◌, ◌^◌, IfOk};
@@ -38,10 +38,7 @@ fn number_in(digits: usize, reason: Reason, w: LineWord) -> Result<u64, Fault>
     ensures is { result ≡ number_of reason w.entry.place (hex_in digits (bytes_of w.entry.line.now w.entry.place)) }
     ensures below { IfOk result (λ n. n < 16 ^ digits) }
 {
-    match hexadecimal(w.text(), digits) {
-        Ok(n) => Ok(n),
-        Err(_) => Err(Fault::at(reason, w.place)),
-    }
+    hexadecimal(w.text(), digits).map_err(|_| Fault::at(reason, w.place))
 }
 
 // A register's address, by its name or by four digits.
@@ -49,10 +46,10 @@ fn number_in(digits: usize, reason: Reason, w: LineWord) -> Result<u64, Fault>
 pub fn register_in(w: LineWord) -> Result<u16, Fault>
     ensures { result ≡ register_in w.entry.line.now w.entry.place }
 {
-    match register_named(w.text()) {
-        Some(register) => Ok(register),
-        None => Ok(number_in(4, Reason::NoRegister, w)? as u16),
+    if let Some(register) = register_named(w.text()) {
+        return Ok(register);
     }
+    Ok(number_in(4, Reason::NoRegister, w)? as u16)
 }
 
 // The value of a register, by two digits or by names of its bits.
@@ -64,11 +61,10 @@ pub fn value_in(register: u16, w: LineWord) -> Result<u8, Fault>
     if let Ok(n) = hexadecimal(text, 2) {
         return Ok(n as u8);
     }
-    match bits_named(register, text) {
-        Ok(value) => Ok(value),
-        Err(NoBits::Twice) => Err(Fault::at(Reason::BitTwice, w.place)),
-        Err(NoBits::NoName) => Err(Fault::at(Reason::NoValue, w.place)),
-    }
+    bits_named(register, text).map_err(|why| match why {
+        NoBits::Twice => Fault::at(Reason::BitTwice, w.place),
+        NoBits::NoName => Fault::at(Reason::NoValue, w.place),
+    })
 }
 
 // An address below a limit, which has four digits.

@@ -59,10 +59,8 @@ fn call_line(time: Time, w: LineWord) -> Result<Line, Fault>
     if called.is_empty() {
         return Err(Fault::at(Reason::NoCall, called.place));
     }
-    match call_named(called.text()) {
-        Some(kind) => line_for(kind, time, called),
-        None => Err(Fault::at(Reason::UnknownCall, called.place)),
-    }
+    let kind = call_named(called.text()).ok_or(Fault::at(Reason::UnknownCall, called.place))?;
+    line_for(kind, time, called)
 }
 
 #[tactic(auto, unfolding(crate::specs::Grammar::parsed))]
@@ -73,18 +71,13 @@ fn parsed(line: &[u8], earlier: Option<Time>) -> Result<Line, Fault>
     if w.is_empty() {
         return Ok(Line::Nothing);
     }
-    match moment_in(w.text(), earlier) {
-        Ok(time) => call_line(time, w),
-        Err(reason) => Err(Fault::at(reason, w.place)),
-    }
+    let time = moment_in(w.text(), earlier).map_err(|reason| Fault::at(reason, w.place))?;
+    call_line(time, w)
 }
 
 // What a line is, after a line with a time or without one. A wrong line is a line too, which waits to be told in its place.
 pub fn parse(line: &[u8], earlier: Option<Time>) -> Line
     ensures { result ≡ line_of earlier line.now }
 {
-    match parsed(line, earlier) {
-        Ok(whole) => whole,
-        Err(fault) => Line::Wrong(fault),
-    }
+    parsed(line, earlier).unwrap_or_else(Line::Wrong)
 }

@@ -16,11 +16,10 @@ pub const MICROSECOND: u64 = 18446744073709;
 fn part_in(word: &[u8]) -> Result<u64, Reason>
     ensures { result ≡ part_of word.now }
 {
-    match decimal(word) {
-        Ok(n) => Ok(n),
-        Err(NoNumber::TooLarge) => Err(Reason::TooLarge),
-        Err(NoNumber::NotDigits) => Err(Reason::NoTime),
-    }
+    decimal(word).map_err(|why| match why {
+        NoNumber::TooLarge => Reason::TooLarge,
+        NoNumber::NotDigits => Reason::NoTime,
+    })
 }
 
 // Whole seconds.
