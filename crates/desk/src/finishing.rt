@@ -81,8 +81,8 @@ pub fn finish<R: Files + Print, S: Print>(
     // The time that was asked for, or that of the last call made.
     let time = options.at.unwrap_or(course.last);
     let judged = Judged {
-        first: options.first,
-        pages: options.pages,
+        first: usize::from(options.judged.first),
+        pages: usize::from(options.judged.pages),
     };
     let mut text = [0u8; REPORT];
     let end = report(

@@ -1,22 +1,22 @@
 -- An option that wants a word has a place after each word, and the pages that are asked for lie in the array: each rule keeps this on
 -- every way that its tests can go. Assumes nothing.
 use Prim.Native.Nat.{ℕ, ◌+◌, ◌/◌, ◌^◌, ◌≤◌, ◌<◌}
-use mathlib.Core.Bool.{Bool, true, false, cond, not, ◌&&◌, ◌||◌}
+use mathlib.Core.Bool.{Bool, true, false, cond, ◌&&◌}
 use mathlib.Core.List.{List}
 use mathlib.Core.Path.{◌≡◌, refl}
 use native.Mathlib.Nat.{div-lt_iff_lt-mul}
 use native.Mathlib.Omega.{arith}
 use borrow.Author.Tests.{ltb-true}
 use lib.Dec.{eqb, ltb}
-use Rattle.cell.specs.Cell.{pages}
+use Rattle.cell.specs.Cell.{array_bytes, pages}
 use Rattle.control.specs.Blocks.{erase_range}
 use Rattle.control.specs.declared.Range.{Range}
 use Rattle.digits.specs.Digits.{hex_in}
 use Rattle.digits.specs.declared.NoNumber.{NoNumber}
-use Rattle.std.specs.Prelude.{Option, Some, None, Result, Ok, Err, IfOk}
+use Rattle.std.specs.Prelude.{Option, Some, None, Result, Ok, Err, IfOk, IfSome}
 use Rattle.std.specs.Option.{is_some}
 use Rattle.verdict.specs.Blocks.{pages_touched}
-use Rattle.options.specs.Arguments.{Word, help_place, image_place, restore_place, block_place, from_place, to_place, history_place, places, place_named, wants_word, value_below, fits, said_of, dashed, plain, option, optional, valued, step_at}
+use Rattle.options.specs.Arguments.{Word, help_place, image_place, restore_place, block_place, from_place, to_place, history_place, places, place_named, wants_word, below, fits, said_of, dashed, plain, option, optional, valued, step_at}
 use Rattle.options.specs.Options.{block_in, address_in, pages_asked, range_asked, accepted, run_of, with_history, whole, ended}
 use Rattle.options.specs.Inside.{StagePlaced, PagesLie}
 use Rattle.options.specs.declared.Asked.{Asked}
@@ -33,23 +33,17 @@ either_way P false p q = q
 
 -- ---- numbers and pages
 
-value-below : (bound : ℕ) (n : Result ℕ NoNumber) → 0 < bound → value_below bound n < bound
-value-below bound (Ok n) h = by-test (ltb n bound) refl
+below-bound : (bound : ℕ) (n : Result ℕ NoNumber) → IfSome (below bound n) (λ v. v < bound)
+below-bound bound (Ok n) = by-test (ltb n bound) refl
   where
-    by-test : (t : Bool) → ltb n bound ≡ t → cond t n 0 < bound
+    by-test : (t : Bool) → ltb n bound ≡ t → IfSome (cond t (Some n) None) (λ v. v < bound)
     by-test true e = ltb-true n bound e
-    by-test false e = h
-value-below bound (Err none) h = h
+    by-test false e = tt
+below-bound bound (Err none) = tt
 
-pub block_below : (o : Option Word) → block_in o < 6
-block_below (Some w) = value-below 6 (hex_in 1 w.now) (omega arith)
-block_below None = omega arith
-
-pub address_below : (o : Option Word) → address_in o < 0xC000
-address_below (Some w) = value-below 0xC000 (hex_in 4 w.now) (omega arith)
-address_below None = omega arith
-
-pub ruleset bounds = (block_below, address_below)
+address-below : (o : Option Word) → IfSome (address_in o) (λ n. n < array_bytes)
+address-below (Some w) = below-bound array_bytes (hex_in 4 w.now)
+address-below None = tt
 
 -- a range that lies in the array
 abbrev pub RangeLies : Range → Type 0
@@ -70,12 +64,6 @@ page-lies a h = (div-lt_iff_lt-mul {k = 128} {x = a} {y = 384} (omega arith)).1 
 touched-lies : (from to : ℕ) → from < 0xC000 → to < 0xC000 → RangeLies (pages_touched from to)
 unfolding pages_touched
 touched-lies from to f t = omega (arith, page-lies from f, page-lies to t)
-
-asked-lies : (blocked : Bool) (block : ℕ) (addressed : Bool) (from to : ℕ) → from < 0xC000 → to < 0xC000
-    → RangeLies (pages_asked blocked block addressed from to)
-unfolding pages_asked
-asked-lies blocked block addressed from to f t =
-    either_way RangeLies blocked (erase-lies (2 ^ block)) (either_way RangeLies addressed (touched-lies from to f t) (omega arith))
 
 -- ---- the stage
 
@@ -115,13 +103,18 @@ RangeAskedLies r = IfOk r RangeLies
 abbrev ResultLies : Result Asked Trouble → Type 0
 ResultLies r = IfOk r PagesLie
 
+pages-lie : (b f t : Option ℕ) → IfSome f (λ n. n < array_bytes) → IfSome t (λ n. n < array_bytes) → RangeAskedLies (pages_asked b f t)
+pages-lie None None None h k = omega arith
+pages-lie None (Some from) (Some to) h k = either_way RangeAskedLies (ltb to from) tt (touched-lies from to h k)
+pages-lie None (Some from) None h k = tt
+pages-lie None None (Some to) h k = tt
+pages-lie (Some b) None None h k = erase-lies (2 ^ b)
+pages-lie (Some b) (Some from) t h k = tt
+pages-lie (Some b) None (Some to) h k = tt
+
 range-lies : (b f t : Option Word) → RangeAskedLies (range_asked b f t)
 unfolding range_asked
-range-lies b f t =
-    either_way RangeAskedLies (is_some b && (is_some f || is_some t)) tt
-    (either_way RangeAskedLies (is_some f && not (is_some t) || is_some t && not (is_some f)) tt
-    (either_way RangeAskedLies (ltb (address_in t) (address_in f)) tt
-    (asked-lies (is_some b) (block_in b) (is_some f) (address_in f) (address_in t) (address_below f) (address_below t))))
+range-lies b f t = pages-lie (block_in b) (address_in f) (address_in t) (address-below f) (address-below t)
 
 module _ (said : List (Option Word)) where
   run-lies : (history : Word) (r : Result Range Trouble) → RangeAskedLies r → ResultLies (run_of said history r)

@@ -5,10 +5,12 @@ use Rattle.std.specs.Prelude.{ℕ, suc, Bool, true, false, cond, ◌||◌, List,
 use Rattle.std.specs.Borrow.{Bor}
 use Rattle.std.specs.Option.{is_some}
 use Rattle.std.specs.Result.{is_ok}
+use Rattle.cell.specs.Cell.{array_bytes}
 use Rattle.byte_search.specs.Search.{slice}
 use Rattle.digits.specs.Digits.{hex_in}
 use Rattle.digits.specs.declared.NoNumber.{NoNumber}
 use Rattle.moments.specs.Moments.{moment_of}
+use Rattle.verdict.specs.Blocks.{blocks}
 use Rattle.words.specs.Text.{text, named}
 use Rattle.options.specs.declared.Given.{Given}
 use Rattle.options.specs.declared.Stage.{Stage}
@@ -111,27 +113,27 @@ wants_word p = ltb go_on_place p
 
 -- ---- the words of options
 
--- whether a number is below a bound, and this number, 0 where it is not
-abbrev pub is_below : ℕ → Result ℕ NoNumber → Bool
-is_below bound (Ok n) = ltb n bound
-is_below bound (Err none) = false
+-- a number, if it lies below a bound
+abbrev pub below : ℕ → Result ℕ NoNumber → Option ℕ
+below bound (Ok n) = cond (ltb n bound) (Some n) None
+below bound (Err none) = None
 
-abbrev pub value_below : ℕ → Result ℕ NoNumber → ℕ
-value_below bound (Ok n) = cond (ltb n bound) n 0
-value_below bound (Err none) = 0
+-- the same of a word with so many hexadecimal digits
+abbrev pub number_below : ℕ → ℕ → List ℕ → Option ℕ
+number_below bound digits bs = below bound (hex_in digits bs)
 
--- a block is one digit below 6, an address four hexadecimal digits below C000
-abbrev pub block_bound : ℕ
-block_bound = 6
+-- a block is one digit, an address four
+abbrev pub block_named : List ℕ → Option ℕ
+block_named bs = number_below blocks 1 bs
 
-abbrev pub address_bound : ℕ
-address_bound = 0xC000
+abbrev pub address_named : List ℕ → Option ℕ
+address_named bs = number_below array_bytes 4 bs
 
 -- whether an option can have a word: a file's name may be any
 unfoldable pub fits : ℕ → List ℕ → Bool
 fits p bs =
-    cond (eqb p block_place) (is_below block_bound (hex_in 1 bs))
-    (cond (eqb p from_place || eqb p to_place) (is_below address_bound (hex_in 4 bs))
+    cond (eqb p block_place) (is_some (block_named bs))
+    (cond (eqb p from_place || eqb p to_place) (is_some (address_named bs))
     (cond (eqb p at_place) (is_ok (moment_of None bs)) true))
 
 -- what is wrong where it can't

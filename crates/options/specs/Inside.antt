@@ -27,7 +27,7 @@ pub record AllTaken (args : List ℕ) (g : Given) : Type 0 where
 -- the pages asked for lie in the array
 abbrev pub PagesLie : Asked → Type 0
 PagesLie Help = Unit {0}
-PagesLie (Run r) = r.first + r.pages ≤ pages
+PagesLie (Run r) = r.judged.first + r.judged.pages ≤ pages
 
 -- what the program is told of its arguments: what their words ask for
 pub record Answer (args : List ℕ) (r : Result Asked Trouble) : Type 0 where

@@ -1,16 +1,15 @@
 -- The options that the words of arguments give, or the first trouble with them: first what is wrong with one word, from left to right, then what is
 -- wrong with all of them together.
 -- Assumes nothing.
-use Rattle.std.specs.Prelude.{ℕ, Bool, cond, not, ◌&&◌, ◌||◌, List, Option, Some, None, Result, Ok, Err, ltb}
+use Rattle.std.specs.Prelude.{ℕ, cond, ◌&&◌, List, Option, Some, None, Result, Ok, Err, ltb}
 use Rattle.std.specs.Option.{is_some}
 use Rattle.std.specs.Result.{result_ok}
 use Rattle.time.specs.declared.Time.{Time}
 use Rattle.cell.specs.Cell.{pages}
 use Rattle.control.specs.declared.Range.{Range}
-use Rattle.digits.specs.Digits.{hex_in}
 use Rattle.moments.specs.Moments.{moment_of}
 use Rattle.verdict.specs.Blocks.{block_range, pages_touched}
-use Rattle.options.specs.Arguments.{Word, events_place, map_place, go_on_place, image_place, restore_place, picture_place, snapshot_place, block_place, from_place, to_place, at_place, history_place, value_below, block_bound, address_bound, said_of, given_by}
+use Rattle.options.specs.Arguments.{Word, events_place, map_place, go_on_place, image_place, restore_place, picture_place, snapshot_place, block_place, from_place, to_place, at_place, history_place, block_named, address_named, said_of, given_by}
 use Rattle.options.specs.declared.Asked.{Asked}
 use Rattle.options.specs.declared.Asked.TheVariants.{Help, Run}
 use Rattle.options.specs.declared.Options.{Options}
@@ -23,32 +22,32 @@ use Rattle.options.specs.declared.Trouble.TheVariants.{NothingAfter, NoHistory, 
 abbrev pub everything : Range
 everything = record { first = 0; pages = pages }
 
--- what is given for a block and for an address, 0 where none is
-abbrev pub block_in : Option Word → ℕ
-block_in (Some w) = value_below block_bound (hex_in 1 w.now)
-block_in None = 0
+-- a block, an address and a time that are given
+abbrev pub block_in : Option Word → Option ℕ
+block_in (Some w) = block_named w.now
+block_in None = None
 
-abbrev pub address_in : Option Word → ℕ
-address_in (Some w) = value_below address_bound (hex_in 4 w.now)
-address_in None = 0
+abbrev pub address_in : Option Word → Option ℕ
+address_in (Some w) = address_named w.now
+address_in None = None
 
--- a time that is given
 abbrev pub time_in : Option Word → Option Time
 time_in (Some w) = result_ok (moment_of None w.now)
 time_in None = None
 
--- the pages that the verdict is about: those of a block, those in which a range of addresses lies, or all
-unfoldable pub pages_asked : Bool → ℕ → Bool → ℕ → ℕ → Range
-pages_asked blocked block addressed from to =
-    cond blocked (block_range block) (cond addressed (pages_touched from to) everything)
+-- the pages that the verdict is about: all, those in which the addresses from one to another lie, or those of a block
+abbrev pub pages_asked : Option ℕ → Option ℕ → Option ℕ → Result Range Trouble
+pages_asked None None None = Ok everything
+pages_asked None (Some from) (Some to) = cond (ltb to from) (Err FromAfterTo) (Ok (pages_touched from to))
+pages_asked None (Some from) None = Err HalfARange
+pages_asked None None (Some to) = Err HalfARange
+pages_asked (Some block) None None = Ok (block_range block)
+pages_asked (Some block) (Some from) to = Err BlockAndAddresses
+pages_asked (Some block) None (Some to) = Err BlockAndAddresses
 
--- the range that is asked for, by a block or by addresses
+-- the same by what is given
 unfoldable pub range_asked : Option Word → Option Word → Option Word → Result Range Trouble
-range_asked block from to =
-    cond (is_some block && (is_some from || is_some to)) (Err BlockAndAddresses)
-    (cond (is_some from && not (is_some to) || is_some to && not (is_some from)) (Err HalfARange)
-    (cond (ltb (address_in to) (address_in from)) (Err FromAfterTo)
-    (Ok (pages_asked (is_some block) (block_in block) (is_some from) (address_in from) (address_in to)))))
+range_asked block from to = pages_asked (block_in block) (address_in from) (address_in to)
 
 -- the options where nothing is wrong
 unfoldable pub accepted : List (Option Word) → Word → Range → Options
@@ -63,8 +62,7 @@ accepted said history range =
       map = is_some (said_of said map_place);
       go_on = is_some (said_of said go_on_place);
       at = time_in (said_of said at_place);
-      first = range.first;
-      pages = range.pages;
+      judged = range;
     }
 
 abbrev pub run_of : List (Option Word) → Word → Result Range Trouble → Result Asked Trouble

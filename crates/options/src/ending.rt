@@ -1,7 +1,6 @@
 // What is made of the words that are taken.
-ghost use Rattle.std.specs.Prelude.{◌≡◌, ◌≤◌, ◌<◌};
-ghost use Rattle.options.specs.Arguments.{block_bound, address_bound};
-ghost use Rattle.options.specs.Options.{pages_asked, range_asked, accepted, whole, ended};
+ghost use Rattle.std.specs.Prelude.{◌≡◌};
+ghost use Rattle.options.specs.Options.{range_asked, accepted, whole, ended};
 
 use crate::places::{
     AT, BLOCK, EVENTS, FROM, GO_ON, HISTORY, IMAGE, MAP, PICTURE, RESTORE, SNAPSHOT, TO, is_given,
@@ -9,31 +8,12 @@ use crate::places::{
 };
 use crate::values::{address_in, block_in, time_in};
 use crate::{Asked, Options, Said, Stage, Trouble};
+use cell::PAGES;
 use control::Range;
 use verdict::blocks::{block_range, pages_touched};
 
-// The pages of the array, as a range counts them.
-const ALL: u16 = 384;
-
-#[tactic(auto, unfolding(crate::specs::Options::pages_asked))]
-fn pages_asked(blocked: bool, block: u64, addressed: bool, from: u64, to: u64) -> Range
-    requires { (block < block_bound) × (from ≤ to) × (to < address_bound) }
-    ensures { result ≡ pages_asked blocked block addressed from to }
-{
-    if blocked {
-        return block_range(block as usize);
-    }
-    if addressed {
-        return pages_touched(from as u16, to as u16);
-    }
-    Range {
-        first: 0,
-        pages: ALL,
-    }
-}
-
 // The range that is asked for, by a block or by addresses.
-#[tactic(auto, using(crate::proofs::Lying::bounds), unfolding(crate::specs::Options::range_asked))]
+#[tactic(auto, unfolding(crate::specs::Options::range_asked))]
 fn range_asked<'a>(
     block: Option<&'a [u8]>,
     from: Option<&'a [u8]>,
@@ -41,21 +21,17 @@ fn range_asked<'a>(
 ) -> Result<Range, Trouble<'a>>
     ensures { result ≡ range_asked block.entry from.entry to.entry }
 {
-    let by_block = block.is_some();
-    let by_from = from.is_some();
-    let by_to = to.is_some();
-    if by_block & (by_from | by_to) {
-        return Err(Trouble::BlockAndAddresses);
+    match (block_in(block), address_in(from), address_in(to)) {
+        (None, None, None) => Ok(Range {
+            first: 0,
+            pages: PAGES as u16,
+        }),
+        (Some(block), None, None) => Ok(block_range(block as usize)),
+        (None, Some(from), Some(to)) if from <= to => Ok(pages_touched(from as u16, to as u16)),
+        (None, Some(_), Some(_)) => Err(Trouble::FromAfterTo),
+        (None, ..) => Err(Trouble::HalfARange),
+        (Some(_), ..) => Err(Trouble::BlockAndAddresses),
     }
-    if (by_from & !by_to) | (by_to & !by_from) {
-        return Err(Trouble::HalfARange);
-    }
-    let first = address_in(from);
-    let last = address_in(to);
-    if last < first {
-        return Err(Trouble::FromAfterTo);
-    }
-    Ok(pages_asked(by_block, block_in(block), by_from, first, last))
 }
 
 #[tactic(auto, unfolding(crate::specs::Options::accepted))]
@@ -72,8 +48,7 @@ fn accepted<'a>(said: Said<'a>, history: &'a [u8], range: Range) -> Options<'a>
         map: is_given(said, MAP),
         go_on: is_given(said, GO_ON),
         at: time_in(said_of(said, AT)),
-        first: range.first as usize,
-        pages: range.pages as usize,
+        judged: range,
     }
 }
 

@@ -3,6 +3,8 @@
 
 ghost use Rattle.options.specs.Inside.{Answer};
 
+use crate::places::PLACES;
+use control::Range;
 use time::Time;
 
 mod ending;
@@ -31,8 +33,7 @@ pub struct Options<'a> {
     // The time of the verdict.
     pub at: Option<Time>,
     // The pages that the verdict is about.
-    pub first: usize,
-    pub pages: usize,
+    pub judged: Range,
 }
 
 // What is wrong with the arguments, with the word that it lies in where that is one.
@@ -69,7 +70,7 @@ pub enum Stage<'a> {
 }
 
 // The word of each place that is given.
-pub type Said<'a> = [Option<&'a [u8]>; 13];
+pub type Said<'a> = [Option<&'a [u8]>; PLACES];
 
 // What the words up to a place give, and the stage.
 #[derive(Clone, Copy)]

@@ -32,6 +32,8 @@ pub const AT: usize = 11;
 
 pub const HISTORY: usize = 12;
 
+pub const PLACES: usize = HISTORY + 1;
+
 // The word of a place, if it is given.
 pub fn said_of<'a>(said: Said<'a>, p: usize) -> Option<&'a [u8]>
     requires { p < places }

@@ -4,7 +4,7 @@ ghost use Rattle.options.specs.Arguments.{places, place_named, taken, dashed, pl
 ghost use Rattle.options.specs.Inside.{StagePlaced, AllTaken};
 
 use crate::places::{
-    AT, BLOCK, EVENTS, FROM, GO_ON, HELP, HISTORY, IMAGE, MAP, PICTURE, RESTORE, SNAPSHOT, TO,
+    AT, BLOCK, EVENTS, FROM, GO_ON, HELP, HISTORY, IMAGE, MAP, PICTURE, PLACES, RESTORE, SNAPSHOT, TO,
     is_given,
 };
 use crate::values::{complaint, fits};
@@ -30,10 +30,7 @@ fn place_named(word: &[u8]) -> usize
         ("--TO", TO),
         ("--AT", AT),
     ];
-    match named(word, &names) {
-        Some(place) => place,
-        None => HISTORY,
-    }
+    named(word, &names).unwrap_or(HISTORY)
 }
 
 fn dashed(word: &[u8]) -> bool
@@ -142,7 +139,7 @@ pub fn all_words(args: &[u8]) -> Given<'_>
     ensures { AllTaken args.now result }
 {
     let mut given = Given {
-        said: [None; 13],
+        said: [None; PLACES],
         stage: Stage::Open,
     };
     let mut from: usize = 0;

@@ -1,40 +1,38 @@
 // The words of options: which words an option can have, and what they stand for.
-ghost use Rattle.std.specs.Prelude.{◌≡◌};
-ghost use Rattle.options.specs.Arguments.{is_below, value_below, fits, complaint};
+ghost use Rattle.std.specs.Prelude.{◌≡◌, ◌<◌, IfSome};
+ghost use Rattle.cell.specs.Cell.{array_bytes};
+ghost use Rattle.verdict.specs.Blocks.{blocks};
+ghost use Rattle.options.specs.Arguments.{number_below, block_named, address_named, fits, complaint};
 ghost use Rattle.options.specs.Options.{time_in, block_in, address_in};
 
 use crate::Trouble;
 use crate::places::{AT, BLOCK, FROM, TO};
-use digits::{NoNumber, hexadecimal};
+use cell::FLASH_SIZE;
+use digits::hexadecimal;
 use moments::moment_in;
 use time::Time;
+use verdict::blocks::BLOCKS;
 
-const BLOCK_BOUND: u64 = 6;
-
-const ADDRESS_BOUND: u64 = 49152;
-
-fn is_below(bound: u64, n: Result<u64, NoNumber>) -> bool
-    ensures { result ≡ is_below bound n }
+// A hexadecimal number of so many digits, if it lies below a bound.
+fn number_below(bound: u64, digits: usize, word: &[u8]) -> Option<u64>
+    ensures is { result ≡ number_below bound digits word.now }
+    ensures below { IfSome result (λ n. n < bound) }
 {
-    match n {
-        Ok(v) => v < bound,
-        Err(_) => false,
-    }
+    hexadecimal(word, digits).ok().filter(|n| *n < bound)
 }
 
-// A number below a bound. Each word that is taken is one, and 0 stands for any other.
-fn value_below(bound: u64, n: Result<u64, NoNumber>) -> u64
-    ensures { result ≡ value_below bound n }
+fn block_named(word: &[u8]) -> Option<u64>
+    ensures is { result ≡ block_named word.now }
+    ensures below { IfSome result (λ n. n < blocks) }
 {
-    match n {
-        Ok(v) => {
-            if v < bound {
-                return v;
-            }
-            0
-        }
-        Err(_) => 0,
-    }
+    number_below(BLOCKS as u64, 1, word)
+}
+
+fn address_named(word: &[u8]) -> Option<u64>
+    ensures is { result ≡ address_named word.now }
+    ensures below { IfSome result (λ n. n < array_bytes) }
+{
+    number_below(FLASH_SIZE as u64, 4, word)
 }
 
 // Whether the option at a place can have a word.
@@ -42,54 +40,41 @@ fn value_below(bound: u64, n: Result<u64, NoNumber>) -> u64
 pub fn fits(p: usize, word: &[u8]) -> bool
     ensures { result ≡ fits p word.now }
 {
-    if p == BLOCK {
-        return is_below(BLOCK_BOUND, hexadecimal(word, 1));
+    match p {
+        BLOCK => block_named(word).is_some(),
+        FROM | TO => address_named(word).is_some(),
+        AT => moment_in(word, None).is_ok(),
+        _ => true,
     }
-    if p == FROM || p == TO {
-        return is_below(ADDRESS_BOUND, hexadecimal(word, 4));
-    }
-    if p == AT {
-        return moment_in(word, None).is_ok();
-    }
-    true
 }
 
 // What is wrong with a word that the option at a place can't have.
 pub fn complaint<'a>(p: usize, word: &'a [u8]) -> Trouble<'a>
     ensures { result ≡ complaint p word.entry }
 {
-    if p == BLOCK {
-        return Trouble::NoBlock(word);
-    }
-    if p == AT {
-        return Trouble::NoTime(word);
-    }
-    Trouble::NoAddress(word)
-}
-
-pub fn block_in(given: Option<&[u8]>) -> u64
-    ensures { result ≡ block_in given.entry }
-{
-    match given {
-        Some(word) => value_below(BLOCK_BOUND, hexadecimal(word, 1)),
-        None => 0,
+    match p {
+        BLOCK => Trouble::NoBlock(word),
+        AT => Trouble::NoTime(word),
+        _ => Trouble::NoAddress(word),
     }
 }
 
-pub fn address_in(given: Option<&[u8]>) -> u64
-    ensures { result ≡ address_in given.entry }
+pub fn block_in(given: Option<&[u8]>) -> Option<u64>
+    ensures is { result ≡ block_in given.entry }
+    ensures below { IfSome result (λ n. n < blocks) }
 {
-    match given {
-        Some(word) => value_below(ADDRESS_BOUND, hexadecimal(word, 4)),
-        None => 0,
-    }
+    given.and_then(|word| block_named(word))
+}
+
+pub fn address_in(given: Option<&[u8]>) -> Option<u64>
+    ensures is { result ≡ address_in given.entry }
+    ensures below { IfSome result (λ n. n < array_bytes) }
+{
+    given.and_then(|word| address_named(word))
 }
 
 pub fn time_in(given: Option<&[u8]>) -> Option<Time>
     ensures { result ≡ time_in given.entry }
 {
-    match given {
-        Some(word) => moment_in(word, None).ok(),
-        None => None,
-    }
+    given.and_then(|word| moment_in(word, None).ok())
 }

@@ -38,7 +38,7 @@ pub struct Counts {
     pub tally: Tally,
 }
 
-// The pages that the verdict is on: so many from a first one on.
+// The pages that the verdict is on: so many from a first one on. No `control::Range`, whose 16 bits would ask more of a caller: the report takes any numbers.
 #[derive(Clone, Copy)]
 pub struct Judged {
     pub first: usize,
