@@ -1,12 +1,12 @@
 -- The arguments of the program as a text with a byte 0 after each word, and what is taken from its words one by one: each option at most
 -- once, in any order, with the word after it where it wants one, and one word that is no option, the history.
 -- Assumes nothing.
-use Rattle.std.specs.Prelude.{ℕ, suc, Bool, true, false, cond, ◌||◌, List, [], ◌∷◌, Option, Some, None, Result, Ok, Err, map, eqb, ltb, get_or, set, replicate}
+use Rattle.std.specs.Prelude.{ℕ, ◌-◌, Bool, true, false, cond, ◌||◌, List, [], ◌∷◌, Option, Some, None, Result, Ok, Err, length, take, map, eqb, ltb, get_or, set, replicate}
 use Rattle.std.specs.Borrow.{Bor}
+use Rattle.std.specs.List.{slice_split}
 use Rattle.std.specs.Option.{is_some}
 use Rattle.std.specs.Result.{is_ok}
 use Rattle.cell.specs.Cell.{array_bytes}
-use Rattle.byte_search.specs.Search.{slice}
 use Rattle.digits.specs.Digits.{hex_in}
 use Rattle.digits.specs.declared.NoNumber.{NoNumber}
 use Rattle.moments.specs.Moments.{moment_of}
@@ -27,16 +27,13 @@ Word = Bor (List ℕ)
 abbrev pub all_bytes : List Word → List (List ℕ)
 all_bytes words = map (λ w. w.now) words
 
--- the words of what is left of the text at a place, of which the first begins at `from`: each ends before a byte 0, and what has none
--- after it is no word
-unfoldable pub words_from : List ℕ → ℕ → ℕ → List ℕ → List (List ℕ)
-words_from args from at [] = []
-words_from args from at (b ∷ bs) =
-    cond (eqb b 0) (slice from at args ∷ words_from args (suc at) (suc at) bs) (words_from args from (suc at) bs)
+-- the parts of the text at its bytes 0
+abbrev pub parts_of : List ℕ → List (List ℕ)
+parts_of args = slice_split (λ b. eqb b 0) args
 
--- all of them
-abbrev pub words_of : List ℕ → List (List ℕ)
-words_of args = words_from args 0 0 args
+-- its words: all parts but the last, which no byte 0 ends
+unfoldable pub words_of : List ℕ → List (List ℕ)
+words_of args = take (length (parts_of args) - 1) (parts_of args)
 
 -- ---- the options
 

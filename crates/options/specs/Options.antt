@@ -45,7 +45,7 @@ pages_asked (Some block) None None = Ok (block_range block)
 pages_asked (Some block) (Some from) to = Err BlockAndAddresses
 pages_asked (Some block) None (Some to) = Err BlockAndAddresses
 
--- the same by what is given
+-- the same by the words that are given, each of which stands for a number (`fits`)
 unfoldable pub range_asked : Option Word → Option Word → Option Word → Result Range Trouble
 range_asked block from to = pages_asked (block_in block) (address_in from) (address_in to)
 

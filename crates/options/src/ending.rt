@@ -12,7 +12,7 @@ use cell::PAGES;
 use control::Range;
 use verdict::blocks::{block_range, pages_touched};
 
-// The range that is asked for, by a block or by addresses.
+// The range that is asked for, by a block or by addresses. Each word that is taken stands for a number, as `fits` has told.
 #[tactic(auto, unfolding(crate::specs::Options::range_asked))]
 fn range_asked<'a>(
     block: Option<&'a [u8]>,

@@ -4,8 +4,8 @@ ghost use Rattle.options.specs.Arguments.{places, place_named, taken, dashed, pl
 ghost use Rattle.options.specs.Inside.{StagePlaced, AllTaken};
 
 use crate::places::{
-    AT, BLOCK, EVENTS, FROM, GO_ON, HELP, HISTORY, IMAGE, MAP, PICTURE, PLACES, RESTORE, SNAPSHOT, TO,
-    is_given,
+    AT, BLOCK, EVENTS, FROM, GO_ON, HELP, HISTORY, IMAGE, MAP, PICTURE, PLACES, RESTORE, SNAPSHOT,
+    TO, is_given,
 };
 use crate::values::{complaint, fits};
 use crate::{Given, Said, Stage, Trouble};
@@ -134,7 +134,6 @@ fn step_at<'a>(said: Said<'a>, stage: Stage<'a>, word: &'a [u8]) -> Given<'a>
 }
 
 // What all words give.
-#[tactic(auto, using(crate::proofs::Reading::steps))]
 pub fn all_words(args: &[u8]) -> Given<'_>
     ensures { AllTaken args.now result }
 {
@@ -142,11 +141,9 @@ pub fn all_words(args: &[u8]) -> Given<'_>
         said: [None; PLACES],
         stage: Stage::Open,
     };
-    let mut from: usize = 0;
-    for at in 0..args.len() {
-        if args[at] == 0 {
-            given = step_at(given.said, given.stage, &args[from..at]);
-            from = at + 1;
+    for piece in args.split_inclusive(|b| *b == 0) {
+        if let Some(word) = piece.strip_suffix(&[0]) {
+            given = step_at(given.said, given.stage, word);
         }
     }
     given

@@ -63,14 +63,14 @@ pub fn block_in(given: Option<&[u8]>) -> Option<u64>
     ensures is { result ≡ block_in given.entry }
     ensures below { IfSome result (λ n. n < blocks) }
 {
-    given.and_then(|word| block_named(word))
+    given.and_then(block_named)
 }
 
 pub fn address_in(given: Option<&[u8]>) -> Option<u64>
     ensures is { result ≡ address_in given.entry }
     ensures below { IfSome result (λ n. n < array_bytes) }
 {
-    given.and_then(|word| address_named(word))
+    given.and_then(address_named)
 }
 
 pub fn time_in(given: Option<&[u8]>) -> Option<Time>
