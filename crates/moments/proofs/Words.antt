@@ -2,6 +2,8 @@
 use Rattle.std.proofs.Common.{◌≡◌, ℕ, ◌+◌, ◌-◌, ◌*◌, ◌^◌, ◌<◌, ◌≤◌, true, false, List, Ok, Err, Some, None, Result, length, take, drop, length-drop, sym, eqb, add-one, arith}
 use Rattle.std.specs.List.{position}
 use Rattle.std.proofs.lemmas.List.{take_all}
+use Rattle.std.proofs.Math.Nat.{pow-le-pow_right}
+use lib.Dec.{lit<}
 use borrow.Author.Tests.{lt-ltb, le-ltb}
 use Rattle.byte_search.specs.Search.{index_of}
 use Rattle.byte_search.proofs.Found.{here, nowhere}
@@ -13,6 +15,9 @@ use Rattle.moments.specs.Moments.{has, head_of, tail_of, part_of, with_decimals}
 use Rattle.moments.proofs.Laws.{part-below, scaled-by, is-in-micros}
 
 -- ---- decimals
+
+pub worth_fits : (count : ℕ) → 10 ^ (6 - count) < 2 ^ 64
+worth_fits count = let most : 10 ^ (6 - count) ≤ 10 ^ 6 = pow-le-pow_right (lit< tt) {i = 6 - count} {j = 6} (omega arith) in omega arith
 
 module _ (ds : List ℕ) where
   pub too_many : (s : ℕ) → 6 < length ds → Err TooManyDecimals ≡ with_decimals (Ok s) ds

@@ -37,19 +37,12 @@ fn exactly_in(seconds: &[u8], fraction: &[u8]) -> Result<Duration, Reason>
 }
 
 // How many microseconds the last of so many decimals is worth.
+#[tactic(auto, using(crate::proofs::Words::worth_fits))]
 fn worth(count: usize) -> u64
     requires { count ≤ 6 }
     ensures { result ≡ 10 ^ (6 - count) }
 {
-    match count {
-        0 => 1_000_000,
-        1 => 100_000,
-        2 => 10_000,
-        3 => 1_000,
-        4 => 100,
-        5 => 10,
-        _ => 1,
-    }
+    10_u64.pow(6 - count as u32)
 }
 
 // Seconds and decimals, of which there are at most six.
