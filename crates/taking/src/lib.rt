@@ -70,12 +70,9 @@ pub fn take_line(place: Place, backlog: &mut Backlog) -> Place
         numbers,
         line,
     } = backlog;
-    let length = place.line.length;
     let bytes: &[u8] = line;
-    let taken = take(&bytes[..length], before, calls, waiting);
-    let beside: &mut [u64] = numbers;
-    beside[waiting] = lines;
+    let taken = take(&bytes[..place.line.length], before, calls, waiting);
+    numbers[waiting] = lines;
     let time = taken.before;
-    let parsed = taken.line;
-    place_after(place, time, lines, taken.waiting, parsed)
+    place_after(place, time, lines, taken.waiting, taken.line)
 }
