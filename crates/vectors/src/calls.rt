@@ -31,10 +31,11 @@ macro_rules! run {
 
 // Whether an answer, its event words included, is the recorded one.
 fn told(memory: &Memory, row: &Row, number: u32, count: u64, value: u16) -> bool {
+    let end = usize::from(row.event_count()).min(memory.events.len());
     number == 0
         && count == u64::from(row.event_count())
         && value == row.answer()
-        && of_words(&memory.table, &memory.events, count) == row.event_sum()
+        && of_words(&memory.table, &memory.events[..end]) == row.event_sum()
 }
 
 // The call that the row's letter names.

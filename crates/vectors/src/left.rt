@@ -48,7 +48,7 @@ fn image_same(memory: &mut Memory, row: &Row) -> bool {
         row.fraction(),
         &mut memory.image,
     );
-    number == 0 && of_bytes(&memory.table, &memory.image, memory.image.len()) == row.image_sum()
+    number == 0 && of_bytes(&memory.table, &memory.image) == row.image_sum()
 }
 
 fn snapshot_same(memory: &mut Memory, row: &Row) -> bool {
@@ -61,9 +61,10 @@ fn snapshot_same(memory: &mut Memory, row: &Row) -> bool {
         &mut length,
     );
     let recorded = row.snapshot_length();
+    let end = (recorded as usize).min(memory.buffer.len());
     number == 0
         && length == u64::from(recorded)
-        && of_bytes(&memory.table, &memory.buffer, recorded as usize) == row.snapshot_sum()
+        && of_bytes(&memory.table, &memory.buffer[..end]) == row.snapshot_sum()
 }
 
 // What takes no time to see: registers and snapshot. The snapshot stands in the buffer afterwards.

@@ -23,8 +23,8 @@ fn entry(byte: u32) -> u32 {
 
 pub fn table() -> Table {
     let mut made = [0u32; 256];
-    for byte in 0..256u32 {
-        made[byte as usize] = entry(byte);
+    for (sum, byte) in made.iter_mut().zip(0..256u32) {
+        *sum = entry(byte);
     }
     made
 }
@@ -35,29 +35,25 @@ fn fed(table: &Table, sum: u32, byte: u8) -> u32 {
     table[usize::from(low ^ byte)] ^ (sum / 256)
 }
 
-// A sum after the first bytes of a slice, as many as it has of them.
-pub fn fed_bytes(table: &Table, begun: u32, bytes: &[u8], count: usize) -> u32 {
-    bytes
-        .iter()
-        .take(count)
-        .fold(begun, |sum, byte| fed(table, sum, *byte))
+// A sum after some bytes more.
+pub fn fed_bytes(table: &Table, begun: u32, bytes: &[u8]) -> u32 {
+    bytes.iter().fold(begun, |sum, byte| fed(table, sum, *byte))
 }
 
 // A sum after the eight bytes of a word, the low one first.
 fn fed_word(table: &Table, begun: u32, word: u64) -> u32 {
-    fed_bytes(table, begun, &word.to_le_bytes(), 8)
+    fed_bytes(table, begun, &word.to_le_bytes())
 }
 
-// The number of the first bytes of a slice.
-pub fn of_bytes(table: &Table, bytes: &[u8], count: usize) -> u32 {
-    fed_bytes(table, ALL_BITS, bytes, count) ^ ALL_BITS
+// The number of some bytes.
+pub fn of_bytes(table: &Table, bytes: &[u8]) -> u32 {
+    fed_bytes(table, ALL_BITS, bytes) ^ ALL_BITS
 }
 
-// The number of the first words of a slice.
-pub fn of_words(table: &Table, words: &[u64], count: u64) -> u32 {
+// The number of some words.
+pub fn of_words(table: &Table, words: &[u64]) -> u32 {
     words
         .iter()
-        .take(count as usize)
         .fold(ALL_BITS, |sum, word| fed_word(table, sum, *word))
         ^ ALL_BITS
 }

@@ -32,7 +32,7 @@ impl Tally {
 
     // One more row, and its bytes in the sum.
     pub fn counted(&mut self, table: &Table, row: &Row) {
-        self.sum = fed_bytes(table, self.sum, &row.0, row::BYTES);
+        self.sum = fed_bytes(table, self.sum, &row.0);
         self.rows = self.rows.wrapping_add(1);
     }
 
@@ -50,7 +50,7 @@ impl Tally {
     // The last row: it has the number of rows and the sum of all bytes before that sum.
     pub fn ended(&mut self, table: &Table, row: &Row) {
         self.reading = false;
-        self.sum = fed_bytes(table, self.sum, &row.0, row::SUMMED) ^ ALL_BITS;
+        self.sum = fed_bytes(table, self.sum, &row.0[..row::SUMMED]) ^ ALL_BITS;
         self.rows = self.rows.wrapping_add(1);
         self.whole = self.rows == u64::from(row.size()) && self.sum == row.list_sum();
     }
