@@ -1,11 +1,12 @@
-// Legible pages of an image: those with a byte that does not read FF.
+// Legible pages of an image: those with a byte that does not read FF. A page and a stretch of pages may be of an image of any length, which an
+// array would not allow, so that their bounds are clauses.
 ghost use Rattle.std.specs.Prelude.{◌≡◌, ◌+◌, ◌*◌, ◌<◌, ◌≤◌, length};
 ghost use Rattle.cell.specs.Cell.{page_bytes, array_bytes};
 ghost use Rattle.verdict.specs.Blocks.{blocks, block_range, pages_touched};
 ghost use Rattle.verdict.specs.Legible.{legible, legible_in};
 
 use crate::blocks::{block_range, pages_touched};
-use cell::PAGE;
+use cell::{FLASH_SIZE, PAGE};
 
 // Whether a page of an image is legible.
 pub fn legible(image: &[u8], page: usize) -> bool
@@ -28,8 +29,8 @@ pub fn legible_pages(image: &[u8], first: usize, pages: usize) -> usize
 
 // How many pages of a block are legible.
 #[tactic(auto, using(crate::proofs::Places::inside))]
-pub fn legible_in_block(image: &[u8], block: usize) -> usize
-    requires { (length image.now ≡ array_bytes) × (block < blocks) }
+pub fn legible_in_block(image: &[u8; FLASH_SIZE], block: usize) -> usize
+    requires { block < blocks }
     ensures { (result ≡ legible_in image.now (block_range block).first (block_range block).pages) × (result ≤ (block_range block).pages) }
 {
     let range = block_range(block);
@@ -38,8 +39,8 @@ pub fn legible_in_block(image: &[u8], block: usize) -> usize
 
 // How many of the pages are legible in which the addresses from one to another lie, both included.
 #[tactic(auto, using(crate::proofs::Places::inside))]
-pub fn legible_between(image: &[u8], from: u16, to: u16) -> usize
-    requires { (length image.now ≡ array_bytes) × (from ≤ to) × (to < array_bytes) }
+pub fn legible_between(image: &[u8; FLASH_SIZE], from: u16, to: u16) -> usize
+    requires { (from ≤ to) × (to < array_bytes) }
     ensures { (result ≡ legible_in image.now (pages_touched from to).first (pages_touched from to).pages) × (result ≤ (pages_touched from to).pages) }
 {
     let range = pages_touched(from, to);
