@@ -15,8 +15,10 @@ use Rattle.listing.proofs.Claimed.{replay3}
 use Rattle.grammar.specs.Grammar.{line_of}
 use Rattle.grammar.specs.declared.Line.{Line}
 use Rattle.grammar.specs.declared.Line.TheVariants as line
-use Rattle.history.specs.History.{Asking, calls_of}
-use Rattle.history.specs.Claim.{asking, InTypes}
+use Rattle.listing.specs.declared.Asking.{Asking}
+use Rattle.listing.specs.Calls.{asking}
+use Rattle.history.specs.History.{calls_of}
+use Rattle.history.specs.Claim.{InTypes}
 use Rattle.history.proofs.Range.{line-in}
 use Rattle.history.proofs.Kept.{line-typed}
 use Rattle.verdict.specs.Pulses.{raised}

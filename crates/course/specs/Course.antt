@@ -14,10 +14,7 @@ zeros = 0 ∷ 0 ∷ 0 ∷ 0 ∷ 0 ∷ 0 ∷ []
 -- nothing is read, and the flash is as it was left at a time
 abbrev pub begun_at : Time → Course
 begun_at t = record {
-  made = 0;
-  refused = 0;
-  left_out = 0;
-  tally = record { completed = zeros; interrupted = zeros };
+  counts = record { made = 0; refused = 0; left_out = 0; tally = record { completed = zeros; interrupted = zeros } };
   last = t;
   stopped = false;
 }
@@ -25,10 +22,7 @@ begun_at t = record {
 -- n more calls were made, the last of them at a time, and the pulses by block are these now
 abbrev pub with_calls : ℕ → Time → Tally → Course → Course
 with_calls n t tally c = record {
-  made = raised c.made n;
-  refused = c.refused;
-  left_out = c.left_out;
-  tally = tally;
+  counts = record { made = raised c.counts.made n; refused = c.counts.refused; left_out = c.counts.left_out; tally = tally };
   last = t;
   stopped = c.stopped;
 }
@@ -36,10 +30,7 @@ with_calls n t tally c = record {
 -- a call was refused: the run ends, unless it is to go on
 abbrev pub after_refusal : Bool → Course → Course
 after_refusal goOn c = record {
-  made = c.made;
-  refused = raised c.refused 1;
-  left_out = c.left_out;
-  tally = c.tally;
+  counts = record { made = c.counts.made; refused = raised c.counts.refused 1; left_out = c.counts.left_out; tally = c.counts.tally };
   last = c.last;
   stopped = not goOn;
 }
@@ -47,10 +38,7 @@ after_refusal goOn c = record {
 -- a line was left out: the same
 abbrev pub after_left_out : Bool → Course → Course
 after_left_out goOn c = record {
-  made = c.made;
-  refused = c.refused;
-  left_out = raised c.left_out 1;
-  tally = c.tally;
+  counts = record { made = c.counts.made; refused = c.counts.refused; left_out = raised c.counts.left_out 1; tally = c.counts.tally };
   last = c.last;
   stopped = not goOn;
 }

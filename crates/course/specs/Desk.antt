@@ -15,9 +15,8 @@ use Rattle.grammar.specs.declared.Line.{Line}
 use Rattle.grammar.specs.declared.Line.TheVariants as line
 use Rattle.grammar.specs.declared.Looking.{Looking}
 use Rattle.grammar.specs.declared.Looking.TheVariants.{Whole, Byte, Cell}
-use Rattle.listing.specs.Calls.{call_at}
-use Rattle.history.specs.History.{Asking}
-use Rattle.history.specs.Claim.{asking}
+use Rattle.listing.specs.declared.Asking.{Asking}
+use Rattle.listing.specs.Calls.{asking_at}
 use Rattle.text.specs.Puts.{Puts}
 use Rattle.answers.specs.Answers.{answer_said, byte_said, cell_said, whole_said}
 use Rattle.sayings.specs.Sayings.{event_said}
@@ -75,7 +74,7 @@ call_said events n a words value = cond events (events_said a.time words ++ valu
 -- a call was made
 abbrev pub made : Manner → ℕ → Asking → Outcome → Desk → Desk
 made w n a o d = record {
-  course = with_calls 1 a.time (tallied d.course.tally (words_of o)) d.course;
+  course = with_calls 1 a.time (tallied d.course.counts.tally (words_of o)) d.course;
   memory = o.memory;
   events = o.events;
   said = d.said ++ call_said w.events n a (words_of o) o.value;
@@ -150,7 +149,7 @@ called_all w (n ∷ ns) d = called_all w ns (called w n.number n.asking d)
 unfoldable pub numbered_from : ℕ → ℕ → List ℕ → List ℕ → List Numbered
 numbered_from zero i calls numbers = []
 numbered_from (suc n) i calls numbers =
-    record { number = at numbers i; asking = asking (call_at calls i []) } ∷ numbered_from n (suc i) calls numbers
+    record { number = at numbers i; asking = asking_at calls i } ∷ numbered_from n (suc i) calls numbers
 
 -- ---- what a function shows of a desk that had said nothing before
 

@@ -6,7 +6,8 @@ use Rattle.fields.specs.declared.Fault.{Fault}
 use Rattle.grammar.specs.declared.Line.{Line}
 use Rattle.grammar.specs.declared.Line.TheVariants.{Wrong}
 use Rattle.grammar.specs.Grammar.{line_of}
-use Rattle.history.specs.History.{Asking, calls_of, time_after}
+use Rattle.listing.specs.declared.Asking.{Asking}
+use Rattle.history.specs.History.{calls_of, time_after}
 use Rattle.verdict.specs.Pulses.{raised}
 use Rattle.course.specs.Bounds.{longest}
 use Rattle.course.specs.declared.Manner.{Manner}

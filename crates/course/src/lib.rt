@@ -12,8 +12,8 @@ use fields::Fault;
 use grammar::Line;
 use refusal::Refusal;
 use time::Time;
-use verdict::Tally;
 use verdict::blocks::BLOCKS;
+use verdict::{Counts, Tally};
 
 pub mod memory;
 
@@ -24,13 +24,10 @@ pub struct Manner {
     pub go_on: bool,
 }
 
-// Calls made and refused, lines left out, pulses by block, the time of the last call made, and whether the run has ended early.
+// What was counted, the time of the last call made, and whether the run has ended early.
 #[derive(Clone, Copy)]
 pub struct Course {
-    pub made: u64,
-    pub refused: u64,
-    pub left_out: u64,
-    pub tally: Tally,
+    pub counts: Counts,
     pub last: Time,
     pub stopped: bool,
 }
@@ -52,6 +49,7 @@ pub enum Complaint {
 }
 
 // What a call, a look or a line came to: the course after it, what is complained of, and where the text that is said ends.
+// The end stands beside no slice: a `Noted` is a copied value, which outlives the loan of the bytes that the text is put into.
 #[derive(Clone, Copy)]
 pub struct Noted {
     pub course: Course,
@@ -110,12 +108,14 @@ pub fn begun(last: Time) -> Course
     ensures { result ≡ begun_at last }
 {
     Course {
-        made: 0,
-        refused: 0,
-        left_out: 0,
-        tally: Tally {
-            completed: [0; BLOCKS],
-            interrupted: [0; BLOCKS],
+        counts: Counts {
+            made: 0,
+            refused: 0,
+            left_out: 0,
+            tally: Tally {
+                completed: [0; BLOCKS],
+                interrupted: [0; BLOCKS],
+            },
         },
         last,
         stopped: false,
@@ -134,8 +134,11 @@ pub fn with_calls(course: Course, calls: u64, last: Time, tally: Tally) -> Cours
     ensures { result ≡ with_calls calls last tally course }
 {
     Course {
-        made: more(course.made, calls),
-        tally,
+        counts: Counts {
+            made: more(course.counts.made, calls),
+            tally,
+            ..course.counts
+        },
         last,
         ..course
     }
@@ -147,9 +150,9 @@ pub fn complained(course: Course, go_on: bool, complaint: Complaint) -> Noted
 {
     let mut after = course;
     match complaint {
-        Complaint::Refused(_, _) => after.refused = more(course.refused, 1),
+        Complaint::Refused(_, _) => after.counts.refused = more(course.counts.refused, 1),
         Complaint::Unseen(_, _) | Complaint::Wrong(_, _) => {
-            after.left_out = more(course.left_out, 1)
+            after.counts.left_out = more(course.counts.left_out, 1)
         }
     }
     after.stopped = !go_on;

@@ -1,8 +1,8 @@
 // The memory of a run. It is lent as arrays, so that loops need not keep lengths in mind.
 use cell::{CELLS, FLASH_SIZE};
-pub use history::NUMBERS;
 use layout::{EVENT_WORDS, RECORD_LEN};
 use lent::memory::LentMut;
+pub use listing::NUMBERS;
 
 // So many calls may wait, each with three numbers: what, seconds, fraction.
 pub const ROOM: usize = 1024;

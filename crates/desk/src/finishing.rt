@@ -5,7 +5,7 @@ use lent::memory::Lent;
 use options::Options;
 use slices::first;
 use std::rt::Files;
-use summary::{Counts, Judged, report};
+use summary::{Judged, report};
 use telling::Told;
 use telling::files::{discarded, kept, picture_drafted, snapshot_drafted};
 use telling::saying::{say_report, say_unseen};
@@ -60,16 +60,6 @@ fn files_written<R: Files, S: Print>(
     files_kept(rt, snapshot, picture, says)
 }
 
-// What is reported of a history that was read. No `From`, since both types are of crates below.
-fn counts_of(course: Course) -> Counts {
-    Counts {
-        made: course.made,
-        refused: course.refused,
-        left_out: course.left_out,
-        tally: course.tally,
-    }
-}
-
 // The report is made before files are written and said after, so that none is written of what can't be seen.
 pub fn finish<R: Files + Print, S: Print>(
     rt: &R,
@@ -87,7 +77,7 @@ pub fn finish<R: Files + Print, S: Print>(
     let mut text = [0u8; REPORT];
     let end = report(
         &mut text,
-        counts_of(course),
+        course.counts,
         judged,
         options.map,
         memory.lent(),

@@ -19,11 +19,12 @@ use Rattle.std.specs.Prelude.{Option}
 use Rattle.time.specs.declared.Time.{Time}
 use Rattle.grammar.specs.declared.Line.{Line}
 use Rattle.grammar.specs.Grammar.{line_of}
-use Rattle.listing.specs.Calls.{word_of, call_at}
+use Rattle.listing.specs.declared.Asking.{Asking}
+use Rattle.listing.specs.Calls.{word_of, call_at, asking}
 use Rattle.listing.specs.Replaying.{stops, idle, asks_after, end_in, asks}
 use Rattle.listing.proofs.Numbers.{word_back}
-use Rattle.history.specs.History.{Asking, calls_of, time_after, calls_in, numbers_of, Waiting, taken, taken_all}
-use Rattle.history.specs.Claim.{asking, InTypes, read_from, Histories}
+use Rattle.history.specs.History.{calls_of, time_after, calls_in, numbers_of, Waiting, taken, taken_all}
+use Rattle.history.specs.Claim.{InTypes, read_from, Histories}
 use Rattle.history.proofs.Range.{LineIn, nothing, call, look, wrong, line-in}
 
 -- ---- numbers of calls

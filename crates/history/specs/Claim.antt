@@ -6,17 +6,14 @@ use Rattle.time.specs.declared.Time.{Time}
 use Rattle.layout.specs.Whole.{TimeFits}
 use Rattle.lent.specs.declared.Request.{Request}
 use Rattle.lent.specs.Memory.{Memory}
-use Rattle.ledger.specs.Lists.{Asked, Numbers}
+use Rattle.ledger.specs.Lists.{Numbers}
 use Rattle.grammar.specs.declared.Looking.{Looking}
 use Rattle.grammar.specs.declared.Line.TheVariants.{Call, Look}
 use Rattle.grammar.specs.Grammar.{line_of}
-use Rattle.listing.specs.Calls.{call_at}
+use Rattle.listing.specs.declared.Asking.{Asking}
+use Rattle.listing.specs.Calls.{asking, asking_at}
 use Rattle.listing.specs.Replaying.{asks}
-use Rattle.history.specs.History.{Asking, time_after, calls_in, numbers_of, Waiting, taken_all}
-
--- a call of the replay's, whatever event words it is lent
-abbrev pub asking : Asked → Asking
-asking q = record { request = q.request; time = q.time }
+use Rattle.history.specs.History.{time_after, calls_in, numbers_of, Waiting, taken_all}
 
 -- what the types of the host functions say of calls, as `Typed` does
 abbrev pub InTypes : List Asking → Type 0
@@ -26,7 +23,7 @@ InTypes (a ∷ rest) = Numbers a.request × TimeFits a.time × InTypes rest
 -- n calls of a list from the i-th on, as the replay reads them
 unfoldable pub read_from : ℕ → ℕ → List ℕ → List Asking
 read_from zero i calls = []
-read_from (suc n) i calls = asking (call_at calls i []) ∷ read_from n (suc i) calls
+read_from (suc n) i calls = asking_at calls i ∷ read_from n (suc i) calls
 
 -- Where `asked` are the calls of lines that were taken after s waited, and `left` waits now:
 pub record Kept (asked : List Asking) (s left : Waiting) : Type 0 where

@@ -3,7 +3,6 @@
 use Rattle.std.specs.Prelude.{ℕ, ◌+◌, ◌*◌, cond, ◌≡◌, List, [], ◌∷◌, ◌++◌, Option, Some, Result, Ok, Err, length}
 use Rattle.std.proofs.lemmas.List.Edits.{sets}
 use Rattle.time.specs.declared.Time.{Time}
-use Rattle.lent.specs.declared.Request.{Request}
 use Rattle.reason.specs.declared.Reason.{Reason}
 use Rattle.moments.specs.Moments.{moment_of}
 use Rattle.words.specs.Words.{word_at}
@@ -11,14 +10,10 @@ use Rattle.fields.specs.Fields.{bytes_of, missing}
 use Rattle.grammar.specs.declared.Line.{Line}
 use Rattle.grammar.specs.declared.Line.TheVariants.{Nothing, Call, Look, Wrong}
 use Rattle.grammar.specs.Grammar.{line_of}
+use Rattle.listing.specs.declared.Asking.{Asking}
 use Rattle.listing.specs.Calls.{word_of}
 
 -- ---- the calls of lines
-
--- what a call asks for, and when
-pub record Asking : Type 0 where
-  pub request : Request
-  pub time : Time
 
 -- the calls of a line: one or none
 abbrev pub calls_of : Line → List Asking

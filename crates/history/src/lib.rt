@@ -1,4 +1,5 @@
-// A line of a history is parsed, and its call is put among those that wait for the replay.
+// A line of a history is parsed, and its call is put among those that wait for the replay. A list of any length comes over the C interface as
+// three numbers a call, so that its bounds are clauses.
 #![tactic(auto)]
 
 ghost use Rattle.std.specs.Prelude.{◌≡◌, [], ◌∷◌, ◌+◌, ◌*◌, ◌≤◌, length};
@@ -6,13 +7,10 @@ ghost use Rattle.std.proofs.lemmas.List.Edits.{sets};
 ghost use Rattle.history.specs.History.{time_after, waits, Takes};
 
 use grammar::{Line, parse};
-use listing::word_of;
+use listing::{NUMBERS, word_of};
 use moments::moment_in;
 use time::Time;
 use words::LineWord;
-
-// Numbers of a call: what it asks for, seconds, fraction.
-pub const NUMBERS: usize = 3;
 
 // What a line is, the time that the next line counts from, and how many calls wait.
 #[derive(Clone, Copy)]

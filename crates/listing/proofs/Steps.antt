@@ -8,11 +8,10 @@ use native.Mathlib.Numerals.{add-one}
 use native.Mathlib.Omega.{arith}
 use Rattle.flash.specs.declared.Flash.{Flash}
 use Rattle.flash.specs.Chip.{Chip}
-use Rattle.time.specs.declared.Time.{Time}
-use Rattle.lent.specs.declared.Request.{Request}
 use Rattle.lent.specs.Memory.{memory_of}
 use Rattle.lent.specs.Asked.{Outcome}
-use Rattle.listing.specs.Calls.{call_at}
+use Rattle.listing.specs.declared.Asking.{Asking}
+use Rattle.listing.specs.Calls.{call_at, asking_at}
 use Rattle.listing.specs.Replaying.{stops, idle}
 use Rattle.listing.specs.Held.{chip, Ready, leaves, Called, ended, Onward}
 use Rattle.listing.proofs.Going.{ended-end, ended-stop, ended-on, unsaid}
@@ -68,18 +67,18 @@ module _ {end : ℕ} {calls : List ℕ} {i : ℕ} {k : Chip} {lent : List ℕ} {
   gone-end h = g.same ∙ ended-end end j calls (idle events (memory_of k')) h
 
   -- the call there, by what it asks for and when
-  module _ {k'' : Chip} {events' : List ℕ} {number value count : ℕ} {q : Request} {t : Time} (h : j < end)
-      (is : (q ≡ (call_at calls j events).request) × (t ≡ (call_at calls j events).time)) (c : Called q t events k' k'' events' number value count) where
+  module _ {k'' : Chip} {events' : List ℕ} {number value count : ℕ} {a : Asking} (h : j < end) (is : a ≡ asking_at calls j)
+      (c : Called a.request a.time events k' k'' events' number value count) where
     there : Called (call_at calls j events).request (call_at calls j events).time events k' k'' events' number value count
-    there = rw (is.0, is.1) at c
+    there = rw is at c
 
-    pub gone-stop : true ≡ stops q number count
+    pub gone-stop : true ≡ stops a.request number count
         → ended end i calls (idle lent (memory_of k)) ≡ record { done = j + 1; last = leaves k'' events' number value count }
-    gone-stop e = g.same ∙ step-stop end j calls events k' k'' h there (sym (rw is.0 at e))
+    gone-stop e = g.same ∙ step-stop end j calls events k' k'' h there (sym (rw is at e))
 
-    pub gone-on : false ≡ stops q number count → Gone end calls i k lent (j + 1) k'' events'
+    pub gone-on : false ≡ stops a.request number count → Gone end calls i k lent (j + 1) k'' events'
     gone-on e =
-        let d = sym (rw is.0 at e) in
+        let d = sym (rw is at e) in
         let s = step-events end j calls events k' k'' h there d in
         record {
           same = g.same ∙ step-on end j calls events k' k'' h there d ∙ ap (λ (es : List ℕ). ended end (j + 1) calls (idle es (memory_of k''))) (sym s);

@@ -1,12 +1,13 @@
 -- Calls as numbers: a list has three for each call, what, seconds and fraction, with what = kind × 2^24 + first × 2^8 + second. Every
 -- number is read as some call, and every call is written as a number that is read as it.
 -- Assumes nothing.
-use Rattle.std.specs.Prelude.{ℕ, ◌+◌, ◌*◌, ◌/◌, ◌%◌, ◌^◌, cond, List, eqb}
+use Rattle.std.specs.Prelude.{ℕ, ◌+◌, ◌*◌, ◌/◌, ◌%◌, ◌^◌, cond, List, [], eqb}
 use Rattle.cell.specs.Cell.{at}
 use Rattle.layout.specs.Layout.{flag_byte, flag_of}
 use Rattle.lent.specs.declared.Request.{Request}
 use Rattle.lent.specs.declared.Request.TheVariants.{WriteRegister, Write8, Read8, Read16, Protect, Reset, PowerOff, Environment}
 use Rattle.ledger.specs.Lists.{Asked}
+use Rattle.listing.specs.declared.Asking.{Asking}
 
 -- ---- reading
 
@@ -42,6 +43,13 @@ call_at calls i lent =
       time = record { 0 = at calls (3 * i + 1); 1 = at calls (3 * i + 2) };
       lent = lent;
     }
+
+-- what a call asks for, and when, whatever event words it is lent
+abbrev pub asking : Asked → Asking
+asking q = record { request = q.request; time = q.time }
+
+abbrev pub asking_at : List ℕ → ℕ → Asking
+asking_at calls i = asking (call_at calls i [])
 
 -- ---- writing
 

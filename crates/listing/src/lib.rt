@@ -1,15 +1,26 @@
-// Calls as numbers: kind × 2^24 + first × 2^8 + second.
+// Calls as numbers: kind × 2^24 + first × 2^8 + second. A list of any length comes over the C interface as three numbers a call, so that its
+// bounds are clauses.
 #![tactic(auto)]
 
-ghost use Rattle.std.specs.Prelude.{◌≡◌, ◌+◌, ◌*◌, ◌<◌, [], length};
+ghost use Rattle.std.specs.Prelude.{◌≡◌, ◌+◌, ◌*◌, ◌<◌, length};
 ghost use Rattle.layout.specs.Layout.{flag_byte};
 ghost use Rattle.layout.specs.Whole.{TimeFits};
 ghost use Rattle.ledger.specs.Lists.{Numbers};
-ghost use Rattle.listing.specs.Calls.{request_by, request_in, call_at, packed, word_of};
+ghost use Rattle.listing.specs.Calls.{request_by, request_in, asking_at, packed, word_of};
 
 use lent::{Answer, Request};
 use refusal::Refusal;
 use time::Time;
+
+// Numbers of a call in a list: what it asks for, seconds, fraction.
+pub const NUMBERS: usize = 3;
+
+// What a call asks for, and when.
+#[derive(Clone, Copy, Debug, PartialEq, Eq)]
+pub struct Asking {
+    pub request: Request,
+    pub time: Time,
+}
 
 // The first call of a list that is not done, and the outcome of the last one that is.
 #[derive(Clone, Copy, Debug, PartialEq, Eq)]
@@ -48,24 +59,25 @@ pub fn request_in(what: u64) -> Request
     request_by(what / KIND, first as u16, second as u8)
 }
 
-// The i-th call of a list: what it asks for, and when.
+// The i-th call of a list.
 #[tactic(auto, using(crate::proofs::Numbers::numbers))]
-pub fn call_at(calls: &[u64], i: usize) -> (Request, Time)
+pub fn call_at(calls: &[u64], i: usize) -> Asking
     requires { 3 * i + 2 < length calls.now }
-    ensures is { (result.0 ≡ (call_at calls.now i []).request) × (result.1 ≡ (call_at calls.now i []).time) }
-    ensures fit { Numbers result.0 × TimeFits result.1 }
+    ensures is { result ≡ asking_at calls.now i }
+    ensures fit { Numbers result.request × TimeFits result.time }
 {
-    (
-        request_in(calls[3 * i]),
-        Time(calls[3 * i + 1], calls[3 * i + 2]),
-    )
+    let at = NUMBERS * i;
+    Asking {
+        request: request_in(calls[at]),
+        time: Time(calls[at + 1], calls[at + 2]),
+    }
 }
 
 fn packed(kind: u64, first: u16, second: u8) -> u64
     requires { kind < 8 }
     ensures { result ≡ packed kind first second }
 {
-    kind * KIND + first as u64 * FIRST + second as u64
+    kind * KIND + u64::from(first) * FIRST + u64::from(second)
 }
 
 // Module and oscillator as bits 0 and 1.
@@ -88,7 +100,7 @@ pub fn word_of(request: Request) -> u64
         Request::PowerOff => packed(6, 0, 0),
         Request::Environment(mode, module, oscillator) => packed(
             7,
-            mode as u16,
+            u16::from(mode),
             flags(module, oscillator),
         ),
     }

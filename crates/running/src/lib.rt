@@ -14,7 +14,7 @@ use flash::Flash;
 use lent::checking::{call_of, call_refusal};
 use lent::{Answer, Request};
 use light::run_light;
-use listing::{Replayed, call_at};
+use listing::{Asking, Replayed, call_at};
 use perform::perform;
 use refusal::Refusal;
 use time::Time;
@@ -78,7 +78,7 @@ pub fn run(
                 last: Ok(Answer::default()),
             };
         }
-        let (request, time) = call_at(calls, i);
+        let Asking { request, time } = call_at(calls, i);
         let last = call_held(flash, array, charges, events, request, time);
         i += 1;
         if stops(request, last) {

@@ -7,6 +7,7 @@ use crate::times::instant;
 use ledger::event_word::{address_in, kind_in, value_in};
 use settling::EventKind;
 use text::Text;
+use time::Time;
 
 // The last address of the range of a pulse that has ended.
 fn last_address(word: u64) -> u64
@@ -37,10 +38,10 @@ fn put_happened(text: &mut Text, word: u64)
 }
 
 // An event with its time.
-pub fn event(text: &mut Text, seconds: u64, fraction: u64, word: u64)
-    ensures { Says (event_said seconds fraction word) text.old text.new }
+pub fn event(text: &mut Text, time: Time, word: u64)
+    ensures { Says (event_said time.0 time.1 word) text.old text.new }
 {
     text.say(b"at ", &[]);
-    instant(text, seconds, fraction);
+    instant(text, time);
     put_happened(text, word);
 }

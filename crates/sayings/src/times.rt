@@ -6,6 +6,7 @@ ghost use Rattle.sayings.specs.Sayings.{microsecond_in, fraction_said, instant_s
 
 use moments::{MICROSECOND, micros_of};
 use text::Text;
+use time::Time;
 
 // The microsecond of a second in which a fraction lies.
 fn microsecond_in(fraction: u64) -> u64
@@ -14,20 +15,22 @@ fn microsecond_in(fraction: u64) -> u64
     (fraction / MICROSECOND).min(999999)
 }
 
-fn put_fraction(text: &mut Text, seconds: u64, fraction: u64)
-    ensures { Says (fraction_said (exact_of fraction) seconds fraction) text.old text.new }
+fn put_fraction(text: &mut Text, time: Time)
+    ensures { Says (fraction_said (exact_of time.1) time.0 time.1) text.old text.new }
 {
+    let Time(seconds, fraction) = time;
     match micros_of(fraction) {
         Some(n) => text.say(b".^", &[n]),
         None => text.say(b".^ (%:%)", &[microsecond_in(fraction), seconds, fraction]),
     }
 }
 
-pub fn instant(text: &mut Text, seconds: u64, fraction: u64)
-    ensures { Says (instant_said seconds fraction) text.old text.new }
+pub fn instant(text: &mut Text, time: Time)
+    ensures { Says (instant_said time.0 time.1) text.old text.new }
 {
+    let Time(seconds, fraction) = time;
     text.say(b"%", &[seconds]);
     if fraction != 0 {
-        put_fraction(text, seconds, fraction);
+        put_fraction(text, time);
     }
 }

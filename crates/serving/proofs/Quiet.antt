@@ -17,19 +17,19 @@ use Rattle.lent.specs.declared.Request.TheVariants.{WriteRegister, Write8, Read8
 use Rattle.lent.specs.Memory.{Memory}
 use Rattle.lent.specs.Asked.{Outcome, outcome}
 use Rattle.ledger.specs.Lists.{Asked}
-use Rattle.listing.specs.Calls.{call_at}
+use Rattle.listing.specs.declared.Asking.{Asking}
+use Rattle.listing.specs.Calls.{call_at, asking_at}
 use Rattle.listing.specs.Replaying.{stops, reads, idle, asks_after, last_of}
 use Rattle.listing.proofs.Going.{unsaid, stopped}
 use Rattle.verdict.specs.declared.Tally.{Tally}
 use Rattle.verdict.specs.Pulses.{raised, tallied}
 use Rattle.verdict.proofs.Ends.{counted_none}
-use Rattle.history.specs.History.{Asking}
 use Rattle.course.specs.declared.Complaint.{Complaint}
 use Rattle.course.specs.declared.Course.{Course}
 use Rattle.course.specs.declared.Manner.{Manner}
 use Rattle.course.specs.Course.{with_calls}
 use Rattle.course.specs.Desk.{Desk, events_said, value_said, call_said, noted, called, called_all, numbered_from}
-use Rattle.serving.specs.Noting.{asking_at, passed, noted_at_once}
+use Rattle.serving.specs.Noting.{passed, noted_at_once}
 
 -- ---- a call that says nothing only counts
 
@@ -58,7 +58,7 @@ raised-more c a b = omega arith
 
 -- one call more that said nothing
 abbrev one_passed : Time → Course → Course
-one_passed t c = with_calls 1 t c.tally c
+one_passed t c = with_calls 1 t c.counts.tally c
 
 passed_on : (i last : ℕ) (calls : List ℕ) (c : Course) → suc i ≤ last → passed (suc i) last calls (one_passed (asking_at calls i).time c) ≡ passed i last calls c
 unfolding passed
@@ -74,7 +74,7 @@ passed_on i last calls c h = by (ℕ_discrete (suc i) last)
         rw (eq-eqb (suc i) last e, here, one, same)
     by (no d) =
         let more : last - i ≡ 1 + (last - suc i) = omega arith in
-        rw (ne_eqb (suc i) last d, here, more, raised-more c.made 1 (last - suc i))
+        rw (ne_eqb (suc i) last d, here, more, raised-more c.counts.made 1 (last - suc i))
 
 passed_none : (i : ℕ) (calls : List ℕ) (c : Course) → passed i i calls c ≡ c
 unfolding passed
@@ -93,7 +93,7 @@ after a o = outcome a.request a.time o.events o.memory
 module _ (w : Manner) (n : ℕ) (a : Asking) (c : Course) (said : List ℕ) (cs : List Complaint) (o : Outcome) where
   noted-idle : (lent : List ℕ) (m : Memory) → reads a.request ≡ false
       → noted w n a (idle lent m) (standing c said cs o) ≡ standing (one_passed a.time c) said cs (idle lent m)
-  noted-idle lent m e = rw (tallied-none c.tally, unsaid-call w.events n a 0 e, append-nil said)
+  noted-idle lent m e = rw (tallied-none c.counts.tally, unsaid-call w.events n a 0 e, append-nil said)
 
   -- a call is noted unless the run has ended
   called_on : c.stopped ≡ false → called w n a (standing c said cs o) ≡ noted w n a (after a o) (standing c said cs o)

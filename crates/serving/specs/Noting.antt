@@ -1,23 +1,17 @@
 -- Calls that are noted at once: those before the last gave no event words, read nothing and were not refused, so they only count.
 -- Assumes nothing.
-use Rattle.std.specs.Prelude.{ℕ, ◌-◌, cond, List, [], eqb}
+use Rattle.std.specs.Prelude.{ℕ, ◌-◌, cond, List, eqb}
 use Rattle.cell.specs.Cell.{at}
 use Rattle.lent.specs.Asked.{Outcome}
-use Rattle.history.specs.History.{Asking}
-use Rattle.history.specs.Claim.{asking}
-use Rattle.listing.specs.Calls.{call_at}
+use Rattle.listing.specs.Calls.{asking_at}
 use Rattle.course.specs.declared.Course.{Course}
 use Rattle.course.specs.declared.Manner.{Manner}
 use Rattle.course.specs.Course.{with_calls}
 use Rattle.course.specs.Desk.{Desk, noted}
 
--- the i-th call of a list
-abbrev pub asking_at : List ℕ → ℕ → Asking
-asking_at calls i = asking (call_at calls i [])
-
 -- the calls from one up to another were made and said nothing: they only count, and the last of them gives the time
 unfoldable pub passed : ℕ → ℕ → List ℕ → Course → Course
-passed from to calls c = cond (eqb from to) c (with_calls (to - from) (asking_at calls (to - 1)).time c.tally c)
+passed from to calls c = cond (eqb from to) c (with_calls (to - from) (asking_at calls (to - 1)).time c.counts.tally c)
 
 -- the same at a desk
 abbrev pub after_passed : ℕ → ℕ → List ℕ → Desk → Desk

@@ -21,7 +21,7 @@ use Rattle.text.specs.Text.{bytes, digits, mark_of, piece, taken, filled}
 use Rattle.text.specs.Puts.{fitting, Puts}
 use Rattle.report.specs.Report.{call_lines, verdict_line}
 use Rattle.verdict.specs.Legible.{legible}
-use Rattle.summary.specs.declared.Counts.{Counts}
+use Rattle.verdict.specs.declared.Counts.{Counts}
 use Rattle.summary.specs.declared.Judged.{Judged}
 use Rattle.summary.specs.Summary.{lines, left_out_line, pulses_in, counts_text, pages_in, page_legible, pages_text, map_row, map_text, lies, address_line, only_line, legible_among, judged_text, summary_text}
 use Rattle.summary.specs.Reported.{marks_at, report_text, Reports}

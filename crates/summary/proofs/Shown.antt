@@ -21,7 +21,7 @@ use Rattle.picture.specs.Outputs.{output_refusal, written}
 use Rattle.picture.proofs.Roomed.{long-enough}
 use Rattle.picture.proofs.Written.{length-written, written_at}
 use Rattle.verdict.proofs.Images.{image-refusal, image-seen}
-use Rattle.summary.specs.declared.Counts.{Counts}
+use Rattle.verdict.specs.declared.Counts.{Counts}
 use Rattle.summary.specs.declared.Judged.{Judged}
 use Rattle.summary.specs.Summary.{map_text, summary_text}
 use Rattle.summary.specs.Reported.{Shows, marks_at, report_text, Reports}

@@ -9,7 +9,7 @@ use Rattle.flash.specs.Chip.{Chip}
 use Rattle.flash.specs.Looking.{image_at}
 use Rattle.picture.specs.Marks.{mark_at}
 use Rattle.text.specs.Puts.{Puts}
-use Rattle.summary.specs.declared.Counts.{Counts}
+use Rattle.verdict.specs.declared.Counts.{Counts}
 use Rattle.summary.specs.declared.Judged.{Judged}
 use Rattle.summary.specs.Summary.{summary_text}
 

@@ -7,7 +7,7 @@ use Rattle.report.specs.Report.{call_lines, pulse_line, page_line, legible_line,
 use Rattle.verdict.specs.declared.Tally.{Tally}
 use Rattle.verdict.specs.Blocks.{blocks, block_range}
 use Rattle.verdict.specs.Legible.{legible, legible_in}
-use Rattle.summary.specs.declared.Counts.{Counts}
+use Rattle.verdict.specs.declared.Counts.{Counts}
 use Rattle.summary.specs.declared.Judged.{Judged}
 
 -- the lines of n things from thing i on

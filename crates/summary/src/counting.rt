@@ -4,11 +4,10 @@ ghost use Rattle.text.specs.Says.{Says};
 ghost use Rattle.verdict.specs.Blocks.{blocks};
 ghost use Rattle.summary.specs.Summary.{lines, left_out_line, pulses_in, counts_text};
 
-use crate::Counts;
 use report::{calls, pulses};
 use text::Text;
-use verdict::Tally;
 use verdict::blocks::BLOCKS;
+use verdict::{Counts, Tally};
 
 fn put_left_out(text: &mut Text, lines: u64)
     ensures { Says (left_out_line lines) text.old text.new }

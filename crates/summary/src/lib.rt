@@ -22,23 +22,15 @@ use refusal::Refusal;
 use see::see_image;
 use text::Text;
 use time::Time;
-use verdict::Tally;
+use verdict::Counts;
 
 pub mod counting;
 pub mod judging;
 pub mod mapping;
 pub mod paging;
 
-// Calls made, calls refused, lines left out, and pulses.
-#[derive(Clone, Copy)]
-pub struct Counts {
-    pub made: u64,
-    pub refused: u64,
-    pub left_out: u64,
-    pub tally: Tally,
-}
-
-// The pages that the verdict is on: so many from a first one on. No `control::Range`, whose 16 bits would ask more of a caller: the report takes any numbers.
+// The pages that the verdict is on: so many from a first one on. No `control::Range`, whose 16 bits would ask more of a caller: the report
+// takes any numbers.
 #[derive(Clone, Copy)]
 pub struct Judged {
     pub first: usize,

@@ -15,9 +15,10 @@ use Rattle.time.specs.declared.Time.{Time}
 use Rattle.grammar.specs.declared.Line.{Line}
 use Rattle.grammar.specs.declared.Line.TheVariants.{Nothing, Call, Look, Wrong}
 use Rattle.grammar.specs.Grammar.{line_of}
-use Rattle.listing.specs.Calls.{call_at}
-use Rattle.history.specs.History.{Asking, calls_of, calls_in, Waiting, waits, taken, taken_all}
-use Rattle.history.specs.Claim.{asking, read_from}
+use Rattle.listing.specs.declared.Asking.{Asking}
+use Rattle.listing.specs.Calls.{call_at, asking}
+use Rattle.history.specs.History.{calls_of, calls_in, Waiting, waits, taken, taken_all}
+use Rattle.history.specs.Claim.{read_from}
 use Rattle.history.proofs.Kept.{histories}
 use Rattle.course.specs.declared.Manner.{Manner}
 use Rattle.course.specs.Desk.{Desk, Numbered, called, called_all, numbered_from}

@@ -2,5 +2,5 @@
 -- Assumes nothing.
 pub mod Places
 pub mod Ends
-pub mod Counts
+pub mod Pages
 pub mod Images

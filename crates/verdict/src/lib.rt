@@ -13,3 +13,12 @@ pub struct Tally {
     pub completed: [u64; BLOCKS],
     pub interrupted: [u64; BLOCKS],
 }
+
+// Calls made, calls refused, lines left out, and pulses by block.
+#[derive(Clone, Copy)]
+pub struct Counts {
+    pub made: u64,
+    pub refused: u64,
+    pub left_out: u64,
+    pub tally: Tally,
+}

@@ -1,5 +1,5 @@
 // Pulses by block, counted from event words.
-ghost use Rattle.std.specs.Prelude.{◌≡◌, ◌/◌, take, [], ◌∷◌};
+ghost use Rattle.std.specs.Prelude.{◌≡◌, ◌/◌, [], ◌∷◌};
 ghost use Rattle.cell.specs.Cell.{page_bytes};
 ghost use Rattle.settling.specs.Kinds.{kind_number};
 ghost use Rattle.ledger.specs.Words.{address_in};
@@ -32,24 +32,24 @@ fn count_word(counts: &mut [u64; BLOCKS], kind: EventKind, word: u64)
     }
 }
 
-// The counts after the words of a kind among the first `count` words.
-fn counted(counts: [u64; BLOCKS], kind: EventKind, events: &[u64], count: usize) -> [u64; BLOCKS]
-    ensures { result ≡ counted (kind_number kind) (take count events.now) counts }
+// The counts after the words of a kind.
+fn counted(counts: [u64; BLOCKS], kind: EventKind, words: &[u64]) -> [u64; BLOCKS]
+    ensures { result ≡ counted (kind_number kind) words.now counts }
 {
     let mut all = counts;
-    for word in &events[..count.min(events.len())] {
+    for word in words {
         count_word(&mut all, kind, *word);
     }
     all
 }
 
-// The tally after the end events among the first `count` words.
+// The tally after the end events among some words.
 #[tactic(auto, unfolding(crate::specs::Pulses::tallied))]
-pub fn tallied(tally: Tally, events: &[u64], count: usize) -> Tally
-    ensures { result ≡ tallied tally (take count events.now) }
+pub fn tallied(tally: Tally, words: &[u64]) -> Tally
+    ensures { result ≡ tallied tally words.now }
 {
     Tally {
-        completed: counted(tally.completed, EventKind::Completed, events, count),
-        interrupted: counted(tally.interrupted, EventKind::Interrupted, events, count),
+        completed: counted(tally.completed, EventKind::Completed, words),
+        interrupted: counted(tally.interrupted, EventKind::Interrupted, words),
     }
 }

@@ -1,7 +1,7 @@
 // What a run says of a call that was made, and of a look. What does not fit is cut off.
 #![tactic(auto)]
 
-ghost use Rattle.std.specs.Prelude.{List, ℕ, take};
+ghost use Rattle.std.specs.Prelude.{List, ℕ};
 ghost use Rattle.lent.specs.Views.{memory_in};
 ghost use Rattle.text.specs.Says.{Says};
 ghost use Rattle.course.specs.Desk.{desk, events_said, value_said, call_said, looked_refusal, looked, Leaves};
@@ -12,6 +12,7 @@ use course::{Complaint, Course, Manner, Noted, complained};
 use grammar::Looking;
 use lent::Request;
 use lent::memory::Lent;
+use listing::Asking;
 use sayings::events::event;
 use text::Text;
 use time::Time;
@@ -23,15 +24,8 @@ fn put_events(text: &mut Text, time: Time, words: &[u64])
     ensures { Says (events_said time words.now) text.old text.new }
 {
     for word in words {
-        event(text, time.0, time.1, *word);
+        event(text, time, *word);
     }
-}
-
-// The same of the first `count` words.
-fn put_first_events(text: &mut Text, time: Time, words: &[u64], count: usize)
-    ensures { Says (events_said time (take count words.now)) text.old text.new }
-{
-    put_events(text, time, &words[..count.min(words.len())]);
 }
 
 // What a read answered.
@@ -39,8 +33,8 @@ fn put_value(text: &mut Text, line: u64, request: Request, value: u16)
     ensures { Says (value_said line request value) text.old text.new }
 {
     match request {
-        Request::Read8(a) => answered(text, line, a as u64, value as u64, false),
-        Request::Read16(a) => answered(text, line, a as u64, value as u64, true),
+        Request::Read8(a) => answered(text, line, u64::from(a), u64::from(value), false),
+        Request::Read16(a) => answered(text, line, u64::from(a), u64::from(value), true),
         Request::WriteRegister(_, _)
         | Request::Write8(_, _)
         | Request::Protect
@@ -55,21 +49,19 @@ pub fn call_said(
     text: &mut Text,
     events_asked: bool,
     line: u64,
-    request: Request,
-    time: Time,
+    asking: Asking,
     words: &[u64],
-    count: usize,
     value: u16,
 )
-    ensures { Says (call_said events_asked line (record { request = request; time = time }) (take count words.now) value) text.old text.new }
+    ensures { Says (call_said events_asked line asking words.now value) text.old text.new }
 {
     if events_asked {
-        put_first_events(text, time, words, count);
-        put_value(text, line, request, value);
+        put_events(text, asking.time, words);
+        put_value(text, line, asking.request, value);
     }
 }
 
-// A look: what is seen is said. One that is refused is left out.
+// A look: what is seen is said. One that is refused is left out. No `Ongoing`, since it is said of every course what a look comes to.
 pub fn look(
     course: Course,
     manner: Manner,

@@ -50,7 +50,7 @@ fn look_at_byte(
     let value = see_byte(lent, address, time)?;
     let blank = see_blank(lent, address, time)?;
     let mut text = Text::new(out);
-    looked_byte(&mut text, line, address as u64, value as u64, blank);
+    looked_byte(&mut text, line, u64::from(address), u64::from(value), blank);
     Ok(text.at)
 }
 
@@ -67,7 +67,7 @@ fn look_at_cell(
 {
     let charge = see_charge(lent, address, bit, time)?;
     let mut text = Text::new(out);
-    looked_cell(&mut text, line, address as u64, bit as u64, charge);
+    looked_cell(&mut text, line, u64::from(address), u64::from(bit), charge);
     Ok(text.at)
 }
 

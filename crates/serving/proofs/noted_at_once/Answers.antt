@@ -2,4 +2,4 @@
 use Rattle.serving.proofs.noted_at_once.Goals as goal
 
 pub returns : goal.returns
-returns c = λ m. rw (← c.passed-before.ensures, ← c.request_at-request.ensures, ← c.time_at-time.ensures) (c.noted.ensures m)
+returns c = λ m. rw (c.call_at-asking.ensures.is, c.passed-before.ensures.course, c.passed-before.ensures.manner) at (c.noted.ensures m)

@@ -5,7 +5,7 @@ use Rattle.serving.proofs.serve.Goals as goal
 
 pub noted_at_once-requires : goal.noted_at_once-requires
 noted_at_once-requires c =
-    let d = done-some _ _ c.args.backlog.now.calls _ _ c.requires.0 (omega (arith, c.requires)) _ c.replay-answer.ensures.done in
+    let d = done-some _ _ c.args.calls.now _ _ c.requires.0 (omega (arith, c.requires)) _ c.replay-answer.ensures.done in
     (d.0, omega (arith, d.1, c.requires), omega (arith, d.1, c.requires))
 
 pub returns-clause-serves : goal.returns-clause-serves

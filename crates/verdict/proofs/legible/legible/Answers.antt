@@ -10,7 +10,7 @@ use borrow.Author.Tests.{tests}
 use Rattle.std.specs.List.{list_all}
 use Rattle.std.proofs.lemmas.Iterator.{YieldsList-from_slice}
 use Rattle.std.proofs.lemmas.Iterator.Search.{all_from_yields_List}
-use Rattle.verdict.proofs.Counts.{legible-list}
+use Rattle.verdict.proofs.Pages.{legible-list}
 use Rattle.verdict.proofs.legible.legible.Goals as goal
 
 pub returns : goal.returns

@@ -10,7 +10,7 @@ use Rattle.std.proofs.lemmas.Iterator.{YieldsList-from_range}
 use Rattle.std.proofs.lemmas.Iterator.Consumers.{count_from_yields_List, YieldsList-from_filter}
 use lib.ListN.{length}
 use Rattle.verdict.specs.Legible.{legible}
-use Rattle.verdict.proofs.Counts.{legible-count, legible-most}
+use Rattle.verdict.proofs.Pages.{legible-count, legible-most}
 use Rattle.verdict.proofs.legible.legible_pages.Goals as goal
 
 pub returns : goal.returns

@@ -15,4 +15,4 @@ loop-word-init c = (search rules, sym (counted_none _ _))
 pub loop-word-preserved : goal.loop-word-preserved
 loop-word-preserved c =
     let l = c.loop-word in
-    (ap length c.count_word.ensures ∙ simp length-counted l.invariant.0, c.count_word.ensures ∙ rw (l.invariant.1, counted-more, add-one l.word-index, take-suc (take c.min.result c.args.events.now) l.word-index 0 (omega arith)))
+    (ap length c.count_word.ensures ∙ simp length-counted l.invariant.0, c.count_word.ensures ∙ rw (l.invariant.1, counted-more, add-one l.word-index, take-suc c.args.words.now l.word-index 0 (omega arith)))

@@ -7,4 +7,4 @@ use Rattle.verdict.specs.Pulses.{counted}
 use Rattle.verdict.proofs.pulses.counted.Given as goal
 
 abbrev pub invariant-loop-word : goal.invariant-loop-word
-invariant-loop-word l = (length l.all ≡ 6) × (l.all ≡ counted (kind_number l.kind) (take l.word-index l.word-items) l.initial.all)
+invariant-loop-word l = (length l.all ≡ 6) × (l.all ≡ counted (kind_number l.kind) (take l.word-index l.words) l.initial.all)
