@@ -13,6 +13,7 @@ use lent::memory::LentMut;
 use listing::{Asking, Replayed, call_at};
 use refusal::Refusal;
 use replay::replay;
+use slices::first;
 use text::Text;
 use verdict::pulses::tallied;
 use voices::call_said;
@@ -48,13 +49,6 @@ fn passed(ongoing: Ongoing, calls: &[u64], from: usize, to: usize) -> Ongoing
     }
 }
 
-// The event words that a call gave.
-fn given(events: &[u64], answer: Answer) -> &[u64]
-    ensures { result.now ≡ take answer.count events.now }
-{
-    &events[..answer.count.min(events.len())]
-}
-
 // A call was made.
 fn made(
     ongoing: Ongoing,
@@ -66,7 +60,7 @@ fn made(
 ) -> Noted
     ensures { Notes (made ongoing.manner line asking) ongoing.course (Ok answer) events.now out.old out.new result }
 {
-    let words = given(events, answer);
+    let words = first(events, answer.count);
     let course = ongoing.course;
     let counted = tallied(course.counts.tally, words);
     let mut text = Text::new(out);
