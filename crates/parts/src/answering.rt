@@ -1,5 +1,5 @@
-// What reads answer: the stored bytes, or what a settle left in the sensed ones. What is asked for is a fact of one parameter: that the
-// array, lent alone here, has its length, or that a call is placed, which is tested once before.
+// What reads answer: the stored bytes, or what a settle left in the sensed ones. What is asked for is what a test before found, that a
+// call is placed or does not settle, and the length of the array, which is lent alone here.
 ghost use Rattle.std.specs.Prelude.{◌≡◌, true, false, ◌<◌, length};
 ghost use Rattle.cell.specs.Cell.{array_bytes};
 ghost use Rattle.registers.specs.Calls.{settles};

@@ -29,7 +29,7 @@ fn sense_address(pending: Option<PendingSense>) -> u16
     pending.map_or(0, |sense| sense.address)
 }
 
-// The four bytes from an address on, as their cells sense.
+// The four bytes from an address on, as their cells sense. That they lie in the array is a fact of one parameter, here and below.
 fn sense_four(m: Sense, address: usize, cells: &CellsRef) -> [u8; 4]
     requires { address + 4 ≤ array_bytes }
     ensures { result ≡ four_sensed m address (cells_in cells.now) }
