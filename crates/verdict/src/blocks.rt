@@ -9,7 +9,7 @@ use control::blocks::erase_range;
 pub const BLOCKS: usize = 6;
 
 // The erase register's value that selects each block.
-const ERASE: [u8; 6] = [1, 2, 4, 8, 16, 32];
+const ERASE: [u8; BLOCKS] = [1, 2, 4, 8, 16, 32];
 
 // The pages of a block.
 pub fn block_range(block: usize) -> Range
