@@ -11,7 +11,11 @@ fn digit(d: u64) -> u8
     requires { d < 16 }
     ensures { result ≡ Text·digit d }
 {
-    if d < 10 { 48 + d as u8 } else { 55 + d as u8 }
+    if d < 10 {
+        b'0' + d as u8
+    } else {
+        b'A' - 10 + d as u8
+    }
 }
 
 impl Text<'_> {

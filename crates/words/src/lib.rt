@@ -11,6 +11,7 @@ mod line_word;
 pub mod spelling;
 
 // A stretch of a line, from its first byte up to, not including, `to`. An empty one is no word, and stands where a word would begin.
+// Two columns and no bytes, since a fault is told with its columns, and the definitions speak of them.
 #[derive(Clone, Copy, Debug, PartialEq, Eq)]
 pub struct Word {
     pub from: usize,

@@ -4,7 +4,7 @@ ghost use Rattle.std.specs.List.{list_all, zip};
 ghost use Rattle.std.specs.Char.{to_ascii_uppercase};
 ghost use Rattle.words.specs.Text.{spells, named};
 
-// Whether a word spells a name that is written in capitals.
+// Whether a word spells a name that is written in capitals. `eq_ignore_ascii_case` would also take a name in small letters.
 #[tactic(auto, using(crate::proofs::Spelled::other_length))]
 pub fn spells(word: &[u8], name: &str) -> bool
     ensures { result ≡ spells name.now word.now }
