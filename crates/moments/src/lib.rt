@@ -100,9 +100,5 @@ pub fn micros_of(fraction: u64) -> Option<u64>
     ensures { result ≡ exact_of fraction }
 {
     let n = fraction / MICROSECOND;
-    if n < MICROS && Duration::from_micros(n).1 == fraction {
-        Some(n)
-    } else {
-        None
-    }
+    (n < MICROS && Duration::from_micros(n).1 == fraction).then_some(n)
 }

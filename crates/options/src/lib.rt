@@ -56,7 +56,8 @@ pub enum Trouble<'a> {
     Twice(&'a [u8]),
 }
 
-// What the next word is. The last two end nothing early, as a `Result` with `?` would: help is no error, and the definitions take all words one by one.
+// What the next word is.
+// The last two are no `Err` that ends the reading by `?`: help is no error, and the definitions take all words one by one.
 #[derive(Clone, Copy)]
 pub enum Stage<'a> {
     // An option or the history.
