@@ -1,5 +1,4 @@
--- An option that wants a word has a place after each word, and the pages that are asked for lie in the array: each rule keeps this on
--- every way that its tests can go. Assumes nothing.
+-- The pages that are asked for lie in the array, on every way that the tests of each rule can go. Assumes nothing.
 use Prim.Native.Nat.{ℕ, ◌+◌, ◌/◌, ◌^◌, ◌≤◌, ◌<◌}
 use mathlib.Core.Bool.{Bool, true, false, cond, ◌&&◌}
 use mathlib.Core.List.{List}
@@ -16,15 +15,14 @@ use Rattle.digits.specs.declared.NoNumber.{NoNumber}
 use Rattle.std.specs.Prelude.{Option, Some, None, Result, Ok, Err, IfOk, IfSome}
 use Rattle.std.specs.Option.{is_some}
 use Rattle.verdict.specs.Blocks.{pages_touched}
-use Rattle.options.specs.Arguments.{Word, help_place, image_place, restore_place, block_place, from_place, to_place, history_place, places, place_named, wants_word, below, fits, said_of, dashed, plain, option, optional, valued, step_at}
+use Rattle.options.specs.Arguments.{Word, below, said_of}
 use Rattle.options.specs.Options.{block_in, address_in, pages_asked, range_asked, accepted, run_of, with_history, whole, ended}
-use Rattle.options.specs.Inside.{StagePlaced, PagesLie}
+use Rattle.options.specs.Inside.{PagesLie}
 use Rattle.options.specs.declared.Asked.{Asked}
-use Rattle.options.specs.declared.Given.{Given}
+use Rattle.options.specs.declared.Parameter.TheVariants as parameter
 use Rattle.options.specs.declared.Stage.{Stage}
 use Rattle.options.specs.declared.Stage.TheVariants.{Open, Wants, Helped, Wrong}
 use Rattle.options.specs.declared.Trouble.{Trouble}
-use Rattle.options.proofs.Words.{place_within}
 
 -- what holds of both ways holds of a choice
 either_way : {A : Type 0} (P : A → Type 0) (t : Bool) {x y : A} → P x → P y → P (cond t x y)
@@ -65,36 +63,6 @@ touched-lies : (from to : ℕ) → from < 0xC000 → to < 0xC000 → RangeLies (
 unfolding pages_touched
 touched-lies from to f t = omega (arith, page-lies from f, page-lies to t)
 
--- ---- the stage
-
-module _ (said : List (Option Word)) (w : Word) where
-  abbrev Placed : Given → Type 0
-  Placed g = StagePlaced g.stage
-
-  plain-placed : Placed (plain said w)
-  unfolding plain
-  plain-placed = either_way Placed (dashed w.now) tt (either_way Placed (is_some (said_of said history_place)) tt tt)
-
-  option-placed : (p : ℕ) → p < places → Placed (option said p w)
-  unfolding option
-  option-placed p h = either_way Placed (is_some (said_of said p)) tt (either_way Placed (wants_word p) h tt)
-
-  optional-placed : (p : ℕ) → p < places → Placed (optional said p w)
-  unfolding optional
-  optional-placed p h =
-      either_way Placed (eqb p help_place) tt (either_way Placed (eqb p history_place) plain-placed (option-placed p h))
-
-  valued-placed : (p : ℕ) → Placed (valued said p w)
-  unfolding valued
-  valued-placed p = either_way Placed (fits p w.now) tt tt
-
-  pub step_placed : (stage : Stage) → StagePlaced stage → Placed (step_at said stage w)
-  unfolding step_at
-  step_placed Open h = optional-placed (place_named w.now) (place_within w.now)
-  step_placed (Wants p name) h = valued-placed p
-  step_placed Helped h = tt
-  step_placed (Wrong t) h = tt
-
 -- ---- the options
 
 abbrev RangeAskedLies : Result Range Trouble → Type 0
@@ -125,12 +93,12 @@ module _ (said : List (Option Word)) where
   history-lies : (o : Option Word) → ResultLies (with_history said o)
   history-lies None = tt
   history-lies (Some history) =
-      either_way ResultLies (is_some (said_of said image_place) && is_some (said_of said restore_place)) tt
-      (run-lies history _ (range-lies (said_of said block_place) (said_of said from_place) (said_of said to_place)))
+      either_way ResultLies (is_some (said_of said parameter.Image) && is_some (said_of said parameter.Restore)) tt
+      (run-lies history _ (range-lies (said_of said parameter.Block) (said_of said parameter.From) (said_of said parameter.To)))
 
   pub ended_lies : (stage : Stage) → ResultLies (ended said stage)
   unfolding ended whole
-  ended_lies Open = history-lies (said_of said history_place)
+  ended_lies Open = history-lies (said_of said parameter.History)
   ended_lies (Wants p name) = tt
   ended_lies Helped = tt
   ended_lies (Wrong t) = tt

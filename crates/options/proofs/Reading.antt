@@ -7,21 +7,19 @@ use lib.ListN.{length}
 use Rattle.std.proofs.lemmas.List.{map_push, append-nil, nil_from_length}
 use Rattle.std.proofs.Math.Seq.{append_snoc}
 use Rattle.options.specs.Arguments.{Word, all_bytes, words_of, start, step_at, take_all, given_by}
-use Rattle.options.specs.Inside.{StagePlaced, AllTaken}
+use Rattle.options.specs.Inside.{AllTaken}
 use Rattle.options.specs.declared.Given.{Given}
 use Rattle.options.proofs.Words.{taking_one, no_words}
-use Rattle.options.proofs.Lying.{step_placed}
 
 pub record Reading (args : List ℕ) (g : Given) (left : List ℕ) : Type 0 where
   pub words : List Word
   pub all : all_bytes words ++ words_of left ≡ words_of args
   pub is : g ≡ given_by words
-  pub placed : StagePlaced g.stage
 
 module _ (args : List ℕ) where
   pub read_none : {left : List ℕ} → left ≡ args → Reading args start left
   unfolding take_all
-  read_none e = rw e (record { words = []; all = refl; is = refl; placed = tt })
+  read_none e = rw e (record { words = []; all = refl; is = refl })
 
   pub read_all : {g : Given} {left : List ℕ} → Reading args g left → length left ≡ 0 → AllTaken args g
   read_all {g} {left} r h =
@@ -40,10 +38,9 @@ module _ (args : List ℕ) (g : Given) (left on : List ℕ) (r : Reading args g 
             ∙ sym (ap (λ l. all_bytes r.words ++ l) first)
             ∙ r.all;
         is = ap (λ h. step_at h.said h.stage w) r.is ∙ sym (taking_one r.words w start);
-        placed = step_placed g.said w g.stage r.placed;
       })
 
   pub read_on : words_of left ≡ words_of on → (g₁ : Given) → g₁ ≡ g → Reading args g₁ on
   read_on none g₁ same =
       rw same
-      (record { words = r.words; all = sym (ap (λ l. all_bytes r.words ++ l) none) ∙ r.all; is = r.is; placed = r.placed })
+      (record { words = r.words; all = sym (ap (λ l. all_bytes r.words ++ l) none) ∙ r.all; is = r.is })

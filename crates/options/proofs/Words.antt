@@ -1,7 +1,7 @@
--- A word of the arguments: its place among some names, what it adds to what is given, and the words of what is left after each piece.
+-- A word of the arguments: the place that it is given, what it adds to what is given, and the words of what is left after each piece.
 -- Assumes nothing.
 use Prim.Native.Nat.{ℕ, suc, ◌+◌, ◌-◌, ◌≤◌, ◌<◌, min}
-use mathlib.Core.Bool.{Bool, true, false, cond}
+use mathlib.Core.Bool.{Bool, false}
 use mathlib.Core.List.{List, [], ◌∷◌, ◌++◌}
 use mathlib.Core.Logic.{⊎_elim}
 use mathlib.Core.Path.{◌≡◌, refl, sym, ap, subst, ◌∙◌}
@@ -13,7 +13,6 @@ use denote.Ref.{Bor}
 use lib.ListN.{length, get_or, take, drop, length-append, drop_of_length-le, take-append-drop}
 use lib.Seq.{drop-cons}
 use Rattle.std.specs.List.{All, IsFirstMatchOrLen, slice_split}
-use Rattle.std.specs.Prelude.{Some}
 use Rattle.std.specs.Fn.{CalledAt, ComputesKey}
 use Rattle.std.proofs.Math.Seq.{append_snoc}
 use Rattle.std.proofs.lemmas.Bool.{cases_lt}
@@ -21,29 +20,15 @@ use Rattle.std.proofs.lemmas.Fn.{always_returns_same}
 use Rattle.std.proofs.lemmas.List.{get_or_append_left, nil_from_length}
 use Rattle.std.proofs.lemmas.List.Elements.{All-nil}
 use Rattle.std.proofs.lemmas.List.Splits.{slice_split_at, slice_split_none, length-slice_split}
-use Rattle.words.specs.Text.{spells, named}
-use Rattle.options.specs.Arguments.{Word, places, names, or_history, place_named, words_of, take_all, step_at}
+use Rattle.options.specs.Arguments.{Word, place, places, words_of, take_all, step_at}
 use Rattle.options.specs.declared.Given.{Given}
+use Rattle.options.specs.declared.Parameter.{Parameter}
+use Rattle.options.specs.declared.Parameter.TheVariants as parameter
 
-Within : List (List ℕ × ℕ) → Type 0
-Within [] = Unit {0}
-Within (e ∷ es) = (e.1 < places) × Within es
-
-named-within : (es : List (List ℕ × ℕ)) (bs : List ℕ) → Within es → or_history (named es bs) < places
-unfolding Within
-named-within [] bs all = omega arith
-named-within (e ∷ es) bs all = by (spells e.0 bs) (named-within es bs all.1)
-  where
-    by : (t : Bool) → or_history (named es bs) < places → or_history (cond t (Some e.1) (named es bs)) < places
-    by true h = all.0
-    by false h = h
-
--- each word has a place
-pub place_within : (bs : List ℕ) → place_named bs < places
-unfolding place_named Within
-place_within bs =
-    named-within names bs
-    (omega arith, (omega arith, (omega arith, (omega arith, (omega arith, (omega arith, (omega arith, (omega arith, (omega arith, (omega arith, (omega arith, (omega arith, tt))))))))))))
+-- each parameter has a place, by its number
+pub place_within : (p : Parameter) → place p < places
+place_within parameter.Help = omega arith
+place_within p = omega arith
 
 -- one more word is taken after those before it
 pub taking_one : (words : List Word) (w : Word) (g : Given)

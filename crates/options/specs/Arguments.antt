@@ -1,7 +1,7 @@
 -- The arguments of the program as a text with a byte 0 after each word, and what is taken from its words one by one: each option at most
 -- once, in any order, with the word after it where it wants one, and one word that is no option, the history.
 -- Assumes nothing.
-use Rattle.std.specs.Prelude.{ℕ, ◌-◌, Bool, true, false, cond, ◌||◌, List, [], ◌∷◌, Option, Some, None, Result, Ok, Err, length, take, map, eqb, ltb, get_or, set, replicate}
+use Rattle.std.specs.Prelude.{ℕ, ◌-◌, Bool, true, false, cond, List, [], ◌∷◌, Option, Some, None, Result, Ok, Err, length, take, map, eqb, ltb, get_or, set, replicate}
 use Rattle.std.specs.Borrow.{Bor}
 use Rattle.std.specs.List.{slice_split}
 use Rattle.std.specs.Option.{is_some}
@@ -13,6 +13,8 @@ use Rattle.moments.specs.Moments.{moment_of}
 use Rattle.verdict.specs.Blocks.{blocks}
 use Rattle.words.specs.Text.{text, named}
 use Rattle.options.specs.declared.Given.{Given}
+use Rattle.options.specs.declared.Parameter.{Parameter}
+use Rattle.options.specs.declared.Parameter.TheVariants as parameter
 use Rattle.options.specs.declared.Stage.{Stage}
 use Rattle.options.specs.declared.Stage.TheVariants.{Open, Wants, Helped, Wrong}
 use Rattle.options.specs.declared.Trouble.{Trouble}
@@ -37,76 +39,57 @@ words_of args = take (length (parts_of args) - 1) (parts_of args)
 
 -- ---- the options
 
--- The place of each option among their names: first `--help`, then those with no word after them, then those with one. The history has
--- the place after the last, where a word that is no option's name is placed.
-abbrev pub help_place : ℕ
-help_place = 0
-
-abbrev pub events_place : ℕ
-events_place = 1
-
-abbrev pub map_place : ℕ
-map_place = 2
-
-abbrev pub go_on_place : ℕ
-go_on_place = 3
-
-abbrev pub image_place : ℕ
-image_place = 4
-
-abbrev pub restore_place : ℕ
-restore_place = 5
-
-abbrev pub picture_place : ℕ
-picture_place = 6
-
-abbrev pub snapshot_place : ℕ
-snapshot_place = 7
-
-abbrev pub block_place : ℕ
-block_place = 8
-
-abbrev pub from_place : ℕ
-from_place = 9
-
-abbrev pub to_place : ℕ
-to_place = 10
-
-abbrev pub at_place : ℕ
-at_place = 11
-
-abbrev pub history_place : ℕ
-history_place = 12
+-- The place of each parameter in what is given: first `--help`, then the options with no word after them, then those with one, and the
+-- history last.
+abbrev pub place : Parameter → ℕ
+place parameter.Help = 0
+place parameter.Events = 1
+place parameter.Map = 2
+place parameter.GoOn = 3
+place parameter.Image = 4
+place parameter.Restore = 5
+place parameter.Picture = 6
+place parameter.Snapshot = 7
+place parameter.Block = 8
+place parameter.From = 9
+place parameter.To = 10
+place parameter.At = 11
+place parameter.History = 12
 
 abbrev pub places : ℕ
 places = 13
 
-abbrev pub names : List (List ℕ × ℕ)
+abbrev pub names : List (List ℕ × Parameter)
 names =
-    (text "--HELP", help_place)
-    ∷ (text "--EVENTS", events_place)
-    ∷ (text "--MAP", map_place)
-    ∷ (text "--GO-ON", go_on_place)
-    ∷ (text "--IMAGE", image_place)
-    ∷ (text "--RESTORE", restore_place)
-    ∷ (text "--PICTURE", picture_place)
-    ∷ (text "--SNAPSHOT", snapshot_place)
-    ∷ (text "--BLOCK", block_place)
-    ∷ (text "--FROM", from_place)
-    ∷ (text "--TO", to_place)
-    ∷ (text "--AT", at_place)
+    (text "--HELP", parameter.Help)
+    ∷ (text "--EVENTS", parameter.Events)
+    ∷ (text "--MAP", parameter.Map)
+    ∷ (text "--GO-ON", parameter.GoOn)
+    ∷ (text "--IMAGE", parameter.Image)
+    ∷ (text "--RESTORE", parameter.Restore)
+    ∷ (text "--PICTURE", parameter.Picture)
+    ∷ (text "--SNAPSHOT", parameter.Snapshot)
+    ∷ (text "--BLOCK", parameter.Block)
+    ∷ (text "--FROM", parameter.From)
+    ∷ (text "--TO", parameter.To)
+    ∷ (text "--AT", parameter.At)
     ∷ []
 
-abbrev pub or_history : Option ℕ → ℕ
+-- a word that is no option's name is for the history
+abbrev pub or_history : Option Parameter → Parameter
 or_history (Some p) = p
-or_history None = history_place
+or_history None = parameter.History
 
-unfoldable pub place_named : List ℕ → ℕ
-place_named bs = or_history (named names bs)
+unfoldable pub parameter_named : List ℕ → Parameter
+parameter_named bs = or_history (named names bs)
 
 -- whether an option has a word after it
-abbrev pub wants_word : ℕ → Bool
-wants_word p = ltb go_on_place p
+abbrev pub wants_word : Parameter → Bool
+wants_word parameter.Help = false
+wants_word parameter.Events = false
+wants_word parameter.Map = false
+wants_word parameter.GoOn = false
+wants_word p = true
 
 -- ---- the words of options
 
@@ -127,29 +110,32 @@ abbrev pub address_named : List ℕ → Option ℕ
 address_named bs = number_below array_bytes 4 bs
 
 -- whether an option can have a word: a file's name may be any
-unfoldable pub fits : ℕ → List ℕ → Bool
-fits p bs =
-    cond (eqb p block_place) (is_some (block_named bs))
-    (cond (eqb p from_place || eqb p to_place) (is_some (address_named bs))
-    (cond (eqb p at_place) (is_ok (moment_of None bs)) true))
+unfoldable pub fits : Parameter → List ℕ → Bool
+fits parameter.Block bs = is_some (block_named bs)
+fits parameter.From bs = is_some (address_named bs)
+fits parameter.To bs = is_some (address_named bs)
+fits parameter.At bs = is_ok (moment_of None bs)
+fits p bs = true
 
 -- what is wrong where it can't
-abbrev pub complaint : ℕ → Word → Trouble
-complaint p w = cond (eqb p block_place) (NoBlock w) (cond (eqb p at_place) (NoTime w) (NoAddress w))
+abbrev pub complaint : Parameter → Word → Trouble
+complaint parameter.Block w = NoBlock w
+complaint parameter.At w = NoTime w
+complaint p w = NoAddress w
 
 -- ---- what is given, word by word
 
--- what is said of a place, if it is given
-abbrev pub said_of : List (Option Word) → ℕ → Option Word
-said_of said p = get_or said p None
+-- the word of a parameter, if it is given
+abbrev pub said_of : List (Option Word) → Parameter → Option Word
+said_of said p = get_or said (place p) None
 
 -- nothing is given yet
 abbrev pub start : Given
 start = record { said = replicate places None; stage = Open }
 
--- a place is given by a word
-abbrev pub taken : List (Option Word) → ℕ → Word → Given
-taken said p w = record { said = set said p (Some w); stage = Open }
+-- a parameter is given by a word
+abbrev pub taken : List (Option Word) → Parameter → Word → Given
+taken said p w = record { said = set said (place p) (Some w); stage = Open }
 
 -- the reading has come to a stage, and nothing more is given
 abbrev pub reached : List (Option Word) → Stage → Given
@@ -164,26 +150,27 @@ dashed (b ∷ bs) = eqb b 45
 unfoldable pub plain : List (Option Word) → Word → Given
 plain said w =
     cond (dashed w.now) (reached said (Wrong (NoSuchOption w)))
-    (cond (is_some (said_of said history_place)) (reached said (Wrong (TwoHistories w))) (taken said history_place w))
+    (cond (is_some (said_of said parameter.History)) (reached said (Wrong (TwoHistories w))) (taken said parameter.History w))
 
 -- an option's name
-unfoldable pub option : List (Option Word) → ℕ → Word → Given
+unfoldable pub option : List (Option Word) → Parameter → Word → Given
 option said p w =
     cond (is_some (said_of said p)) (reached said (Wrong (Twice w)))
     (cond (wants_word p) (reached said (Wants p w)) (taken said p w))
 
--- a word where an option or the history is due, by its place among the names
-unfoldable pub optional : List (Option Word) → ℕ → Word → Given
-optional said p w =
-    cond (eqb p help_place) (reached said Helped) (cond (eqb p history_place) (plain said w) (option said p w))
+-- a word where an option or the history is due, by what it is for
+unfoldable pub optional : List (Option Word) → Parameter → Word → Given
+optional said parameter.Help w = reached said Helped
+optional said parameter.History w = plain said w
+optional said p w = option said p w
 
 -- a word after an option
-unfoldable pub valued : List (Option Word) → ℕ → Word → Given
+unfoldable pub valued : List (Option Word) → Parameter → Word → Given
 valued said p w = cond (fits p w.now) (taken said p w) (reached said (Wrong (complaint p w)))
 
 -- the next word: after `--help`, and after the first trouble, no word is looked at
 unfoldable pub step_at : List (Option Word) → Stage → Word → Given
-step_at said Open w = optional said (place_named w.now) w
+step_at said Open w = optional said (parameter_named w.now) w
 step_at said (Wants p name) w = valued said p w
 step_at said Helped w = reached said Helped
 step_at said (Wrong t) w = reached said (Wrong t)

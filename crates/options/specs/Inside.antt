@@ -1,22 +1,13 @@
 -- What is promised of the arguments: what their words give, and that the pages asked for lie in the array.
 -- Assumes nothing.
-use Rattle.std.specs.Prelude.{ℕ, ◌+◌, ◌≤◌, ◌<◌, List, Result, ◌≡◌, IfOk}
+use Rattle.std.specs.Prelude.{ℕ, ◌+◌, ◌≤◌, List, Result, ◌≡◌, IfOk}
 use Rattle.cell.specs.Cell.{pages}
-use Rattle.options.specs.Arguments.{Word, all_bytes, words_of, places, given_by}
+use Rattle.options.specs.Arguments.{Word, all_bytes, words_of, given_by}
 use Rattle.options.specs.Options.{options_of}
 use Rattle.options.specs.declared.Asked.{Asked}
 use Rattle.options.specs.declared.Asked.TheVariants.{Help, Run}
 use Rattle.options.specs.declared.Given.{Given}
-use Rattle.options.specs.declared.Stage.{Stage}
-use Rattle.options.specs.declared.Stage.TheVariants.{Open, Wants, Helped, Wrong}
 use Rattle.options.specs.declared.Trouble.{Trouble}
-
--- an option that wants a word has a place
-abbrev pub StagePlaced : Stage → Type 0
-StagePlaced Open = Unit {0}
-StagePlaced (Wants p name) = p < places
-StagePlaced Helped = Unit {0}
-StagePlaced (Wrong t) = Unit {0}
 
 -- what all words of the text give
 pub record AllTaken (args : List ℕ) (g : Given) : Type 0 where

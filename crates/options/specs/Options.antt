@@ -9,10 +9,11 @@ use Rattle.cell.specs.Cell.{pages}
 use Rattle.control.specs.declared.Range.{Range}
 use Rattle.moments.specs.Moments.{moment_of}
 use Rattle.verdict.specs.Blocks.{block_range, pages_touched}
-use Rattle.options.specs.Arguments.{Word, events_place, map_place, go_on_place, image_place, restore_place, picture_place, snapshot_place, block_place, from_place, to_place, at_place, history_place, block_named, address_named, said_of, given_by}
+use Rattle.options.specs.Arguments.{Word, block_named, address_named, said_of, given_by}
 use Rattle.options.specs.declared.Asked.{Asked}
 use Rattle.options.specs.declared.Asked.TheVariants.{Help, Run}
 use Rattle.options.specs.declared.Options.{Options}
+use Rattle.options.specs.declared.Parameter.TheVariants as parameter
 use Rattle.options.specs.declared.Stage.{Stage}
 use Rattle.options.specs.declared.Stage.TheVariants.{Open, Wants, Helped, Wrong}
 use Rattle.options.specs.declared.Trouble.{Trouble}
@@ -54,14 +55,14 @@ unfoldable pub accepted : List (Option Word) → Word → Range → Options
 accepted said history range =
     record {
       history = history;
-      image = said_of said image_place;
-      restore = said_of said restore_place;
-      picture = said_of said picture_place;
-      snapshot = said_of said snapshot_place;
-      events = is_some (said_of said events_place);
-      map = is_some (said_of said map_place);
-      go_on = is_some (said_of said go_on_place);
-      at = time_in (said_of said at_place);
+      image = said_of said parameter.Image;
+      restore = said_of said parameter.Restore;
+      picture = said_of said parameter.Picture;
+      snapshot = said_of said parameter.Snapshot;
+      events = is_some (said_of said parameter.Events);
+      map = is_some (said_of said parameter.Map);
+      go_on = is_some (said_of said parameter.GoOn);
+      at = time_in (said_of said parameter.At);
       judged = range;
     }
 
@@ -73,11 +74,11 @@ run_of said history (Err t) = Err t
 abbrev pub with_history : List (Option Word) → Option Word → Result Asked Trouble
 with_history said None = Err NoHistory
 with_history said (Some history) =
-    cond (is_some (said_of said image_place) && is_some (said_of said restore_place)) (Err ImageAndRestore)
-    (run_of said history (range_asked (said_of said block_place) (said_of said from_place) (said_of said to_place)))
+    cond (is_some (said_of said parameter.Image) && is_some (said_of said parameter.Restore)) (Err ImageAndRestore)
+    (run_of said history (range_asked (said_of said parameter.Block) (said_of said parameter.From) (said_of said parameter.To)))
 
 unfoldable pub whole : List (Option Word) → Result Asked Trouble
-whole said = with_history said (said_of said history_place)
+whole said = with_history said (said_of said parameter.History)
 
 -- how the reading has ended
 unfoldable pub ended : List (Option Word) → Stage → Result Asked Trouble

@@ -2,12 +2,9 @@
 ghost use Rattle.std.specs.Prelude.{◌≡◌};
 ghost use Rattle.options.specs.Options.{range_asked, accepted, whole, ended};
 
-use crate::places::{
-    AT, BLOCK, EVENTS, FROM, GO_ON, HISTORY, IMAGE, MAP, PICTURE, RESTORE, SNAPSHOT, TO, is_given,
-    said_of,
-};
+use crate::places::{is_given, said_of};
 use crate::values::{address_in, block_in, time_in};
-use crate::{Asked, Options, Said, Stage, Trouble};
+use crate::{Asked, Options, Parameter, Said, Stage, Trouble};
 use cell::PAGES;
 use control::Range;
 use verdict::blocks::{block_range, pages_touched};
@@ -40,14 +37,14 @@ fn accepted<'a>(said: Said<'a>, history: &'a [u8], range: Range) -> Options<'a>
 {
     Options {
         history,
-        image: said_of(said, IMAGE),
-        restore: said_of(said, RESTORE),
-        picture: said_of(said, PICTURE),
-        snapshot: said_of(said, SNAPSHOT),
-        events: is_given(said, EVENTS),
-        map: is_given(said, MAP),
-        go_on: is_given(said, GO_ON),
-        at: time_in(said_of(said, AT)),
+        image: said_of(said, Parameter::Image),
+        restore: said_of(said, Parameter::Restore),
+        picture: said_of(said, Parameter::Picture),
+        snapshot: said_of(said, Parameter::Snapshot),
+        events: is_given(said, Parameter::Events),
+        map: is_given(said, Parameter::Map),
+        go_on: is_given(said, Parameter::GoOn),
+        at: time_in(said_of(said, Parameter::At)),
         judged: range,
     }
 }
@@ -56,13 +53,13 @@ fn accepted<'a>(said: Said<'a>, history: &'a [u8], range: Range) -> Options<'a>
 fn whole<'a>(said: Said<'a>) -> Result<Asked<'a>, Trouble<'a>>
     ensures { result ≡ whole said.entry }
 {
-    let history = said_of(said, HISTORY).ok_or(Trouble::NoHistory)?;
-    if is_given(said, IMAGE) & is_given(said, RESTORE) {
+    let history = said_of(said, Parameter::History).ok_or(Trouble::NoHistory)?;
+    if is_given(said, Parameter::Image) & is_given(said, Parameter::Restore) {
         return Err(Trouble::ImageAndRestore);
     }
-    let block = said_of(said, BLOCK);
-    let from = said_of(said, FROM);
-    let to = said_of(said, TO);
+    let block = said_of(said, Parameter::Block);
+    let from = said_of(said, Parameter::From);
+    let to = said_of(said, Parameter::To);
     let range = range_asked(block, from, to)?;
     Ok(Asked::Run(accepted(said, history, range)))
 }

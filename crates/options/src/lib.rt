@@ -12,6 +12,24 @@ mod places;
 mod taking;
 mod values;
 
+// What words can be given for: the options, first the help, then those with no word after them, then those with one, and the history.
+#[derive(Clone, Copy, Debug, PartialEq, Eq)]
+pub enum Parameter {
+    Help,
+    Events,
+    Map,
+    GoOn,
+    Image,
+    Restore,
+    Picture,
+    Snapshot,
+    Block,
+    From,
+    To,
+    At,
+    History,
+}
+
 // What the program is asked for.
 #[derive(Clone, Copy)]
 pub enum Asked<'a> {
@@ -62,15 +80,15 @@ pub enum Trouble<'a> {
 pub enum Stage<'a> {
     // An option or the history.
     Open,
-    // The word of the option at this place, whose name is this word.
-    Wants(usize, &'a [u8]),
+    // The word of this option, whose name is this word.
+    Wants(Parameter, &'a [u8]),
     // No matter, since the help is asked for.
     Helped,
     // No matter, since something is wrong.
     Wrong(Trouble<'a>),
 }
 
-// The word of each place that is given.
+// The word of each parameter that is given.
 pub type Said<'a> = [Option<&'a [u8]>; PLACES];
 
 // What the words up to a place give, and the stage.

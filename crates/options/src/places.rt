@@ -1,49 +1,43 @@
-// The places of the options among their names: first the help, then those with no word after them, then those with one. The history has
-// the place after the last. They are numbers since they index what is given, and an enum would be cast at each use.
-ghost use Rattle.std.specs.Prelude.{◌≡◌, ◌<◌};
+// The places of the parameters in what is given.
+ghost use Rattle.std.specs.Prelude.{◌≡◌};
 ghost use Rattle.std.specs.Option.{is_some};
-ghost use Rattle.options.specs.Arguments.{places, said_of};
+ghost use Rattle.options.specs.Arguments.{place, said_of};
 
-use crate::Said;
+use crate::{Parameter, Said};
 
-pub const HELP: usize = 0;
+pub const PLACES: usize = 13;
 
-pub const EVENTS: usize = 1;
+impl From<Parameter> for usize {
+    ghost from_gives = { λ p n. n ≡ place p };
 
-pub const MAP: usize = 2;
-
-pub const GO_ON: usize = 3;
-
-pub const IMAGE: usize = 4;
-
-pub const RESTORE: usize = 5;
-
-pub const PICTURE: usize = 6;
-
-pub const SNAPSHOT: usize = 7;
-
-pub const BLOCK: usize = 8;
-
-pub const FROM: usize = 9;
-
-pub const TO: usize = 10;
-
-pub const AT: usize = 11;
-
-pub const HISTORY: usize = 12;
-
-pub const PLACES: usize = HISTORY + 1;
-
-// The word of a place, if it is given.
-pub fn said_of<'a>(said: Said<'a>, p: usize) -> Option<&'a [u8]>
-    requires { p < places }
-    ensures { result ≡ said_of said.entry p }
-{
-    said[p]
+    fn from(p: Parameter) -> usize {
+        match p {
+            Parameter::Help => 0,
+            Parameter::Events => 1,
+            Parameter::Map => 2,
+            Parameter::GoOn => 3,
+            Parameter::Image => 4,
+            Parameter::Restore => 5,
+            Parameter::Picture => 6,
+            Parameter::Snapshot => 7,
+            Parameter::Block => 8,
+            Parameter::From => 9,
+            Parameter::To => 10,
+            Parameter::At => 11,
+            Parameter::History => 12,
+        }
+    }
 }
 
-pub fn is_given(said: Said, p: usize) -> bool
-    requires { p < places }
+// The word of a parameter, if it is given.
+#[tactic(auto, using(crate::proofs::Words::place_within))]
+pub fn said_of<'a>(said: Said<'a>, p: Parameter) -> Option<&'a [u8]>
+    ensures { result ≡ said_of said.entry p }
+{
+    said[usize::from(p)]
+}
+
+pub fn is_given(said: Said, p: Parameter) -> bool
     ensures { result ≡ is_some (said_of said.entry p) }
 {
     said_of(said, p).is_some()

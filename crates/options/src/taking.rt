@@ -1,36 +1,33 @@
 // What is taken from the arguments, word by word.
-ghost use Rattle.std.specs.Prelude.{◌≡◌, ◌<◌};
-ghost use Rattle.options.specs.Arguments.{places, place_named, taken, dashed, plain, option, optional, valued, step_at};
-ghost use Rattle.options.specs.Inside.{StagePlaced, AllTaken};
+ghost use Rattle.std.specs.Prelude.{◌≡◌};
+ghost use Rattle.options.specs.Arguments.{parameter_named, wants_word, taken, dashed, plain, option, optional, valued, step_at};
+ghost use Rattle.options.specs.Inside.{AllTaken};
 
-use crate::places::{
-    AT, BLOCK, EVENTS, FROM, GO_ON, HELP, HISTORY, IMAGE, MAP, PICTURE, PLACES, RESTORE, SNAPSHOT,
-    TO, is_given,
-};
+use crate::places::{PLACES, is_given};
 use crate::values::{complaint, fits};
-use crate::{Given, Said, Stage, Trouble};
+use crate::{Given, Parameter, Said, Stage, Trouble};
 use words::spelling::named;
 
-// The place of an option by its name, and the history's for any other word.
-#[tactic(auto, unfolding(crate::specs::Arguments::place_named))]
-fn place_named(word: &[u8]) -> usize
-    ensures { result ≡ place_named word.now }
+// The option of a name, and the history for any other word.
+#[tactic(auto, unfolding(crate::specs::Arguments::parameter_named))]
+fn parameter_named(word: &[u8]) -> Parameter
+    ensures { result ≡ parameter_named word.now }
 {
     let names = [
-        ("--HELP", HELP),
-        ("--EVENTS", EVENTS),
-        ("--MAP", MAP),
-        ("--GO-ON", GO_ON),
-        ("--IMAGE", IMAGE),
-        ("--RESTORE", RESTORE),
-        ("--PICTURE", PICTURE),
-        ("--SNAPSHOT", SNAPSHOT),
-        ("--BLOCK", BLOCK),
-        ("--FROM", FROM),
-        ("--TO", TO),
-        ("--AT", AT),
+        ("--HELP", Parameter::Help),
+        ("--EVENTS", Parameter::Events),
+        ("--MAP", Parameter::Map),
+        ("--GO-ON", Parameter::GoOn),
+        ("--IMAGE", Parameter::Image),
+        ("--RESTORE", Parameter::Restore),
+        ("--PICTURE", Parameter::Picture),
+        ("--SNAPSHOT", Parameter::Snapshot),
+        ("--BLOCK", Parameter::Block),
+        ("--FROM", Parameter::From),
+        ("--TO", Parameter::To),
+        ("--AT", Parameter::At),
     ];
-    named(word, &names).unwrap_or(HISTORY)
+    named(word, &names).unwrap_or(Parameter::History)
 }
 
 fn dashed(word: &[u8]) -> bool
@@ -39,12 +36,12 @@ fn dashed(word: &[u8]) -> bool
     word.first() == Some(&b'-')
 }
 
-fn taken<'a>(said: Said<'a>, p: usize, word: &'a [u8]) -> Given<'a>
-    requires { p < places }
+#[tactic(auto, using(crate::proofs::Words::place_within))]
+fn taken<'a>(said: Said<'a>, p: Parameter, word: &'a [u8]) -> Given<'a>
     ensures { result ≡ taken said.entry p word.entry }
 {
     let mut all = said;
-    all[p] = Some(word);
+    all[usize::from(p)] = Some(word);
     Given {
         said: all,
         stage: Stage::Open,
@@ -61,18 +58,27 @@ fn plain<'a>(said: Said<'a>, word: &'a [u8]) -> Given<'a>
             stage: Stage::Wrong(Trouble::NoSuchOption(word)),
         };
     }
-    if is_given(said, HISTORY) {
+    if is_given(said, Parameter::History) {
         return Given {
             said,
             stage: Stage::Wrong(Trouble::TwoHistories(word)),
         };
     }
-    taken(said, HISTORY, word)
+    taken(said, Parameter::History, word)
+}
+
+// Whether an option has a word after it.
+fn wants_word(p: Parameter) -> bool
+    ensures { result ≡ wants_word p }
+{
+    !matches!(
+        p,
+        Parameter::Help | Parameter::Events | Parameter::Map | Parameter::GoOn
+    )
 }
 
 #[tactic(auto, unfolding(crate::specs::Arguments::option))]
-fn option<'a>(said: Said<'a>, p: usize, word: &'a [u8]) -> Given<'a>
-    requires { p < places }
+fn option<'a>(said: Said<'a>, p: Parameter, word: &'a [u8]) -> Given<'a>
     ensures { result ≡ option said.entry p word.entry }
 {
     if is_given(said, p) {
@@ -81,7 +87,7 @@ fn option<'a>(said: Said<'a>, p: usize, word: &'a [u8]) -> Given<'a>
             stage: Stage::Wrong(Trouble::Twice(word)),
         };
     }
-    if GO_ON < p {
+    if wants_word(p) {
         return Given {
             said,
             stage: Stage::Wants(p, word),
@@ -91,25 +97,21 @@ fn option<'a>(said: Said<'a>, p: usize, word: &'a [u8]) -> Given<'a>
 }
 
 #[tactic(auto, unfolding(crate::specs::Arguments::optional))]
-fn optional<'a>(said: Said<'a>, p: usize, word: &'a [u8]) -> Given<'a>
-    requires { p < places }
+fn optional<'a>(said: Said<'a>, p: Parameter, word: &'a [u8]) -> Given<'a>
     ensures { result ≡ optional said.entry p word.entry }
 {
-    if p == HELP {
-        return Given {
+    match p {
+        Parameter::Help => Given {
             said,
             stage: Stage::Helped,
-        };
+        },
+        Parameter::History => plain(said, word),
+        _ => option(said, p, word),
     }
-    if p == HISTORY {
-        return plain(said, word);
-    }
-    option(said, p, word)
 }
 
 #[tactic(auto, unfolding(crate::specs::Arguments::valued))]
-fn valued<'a>(said: Said<'a>, p: usize, word: &'a [u8]) -> Given<'a>
-    requires { p < places }
+fn valued<'a>(said: Said<'a>, p: Parameter, word: &'a [u8]) -> Given<'a>
     ensures { result ≡ valued said.entry p word.entry }
 {
     if fits(p, word) {
@@ -121,13 +123,12 @@ fn valued<'a>(said: Said<'a>, p: usize, word: &'a [u8]) -> Given<'a>
     }
 }
 
-#[tactic(auto, using(crate::proofs::Words::place_within), unfolding(crate::specs::Arguments::step_at))]
+#[tactic(auto, unfolding(crate::specs::Arguments::step_at))]
 fn step_at<'a>(said: Said<'a>, stage: Stage<'a>, word: &'a [u8]) -> Given<'a>
-    requires { StagePlaced stage }
     ensures { result ≡ step_at said.entry stage.entry word.entry }
 {
     match stage {
-        Stage::Open => optional(said, place_named(word), word),
+        Stage::Open => optional(said, parameter_named(word), word),
         Stage::Wants(p, _) => valued(said, p, word),
         Stage::Helped | Stage::Wrong(_) => Given { said, stage },
     }

@@ -5,8 +5,7 @@ ghost use Rattle.verdict.specs.Blocks.{blocks};
 ghost use Rattle.options.specs.Arguments.{number_below, block_named, address_named, fits, complaint};
 ghost use Rattle.options.specs.Options.{time_in, block_in, address_in};
 
-use crate::Trouble;
-use crate::places::{AT, BLOCK, FROM, TO};
+use crate::{Parameter, Trouble};
 use cell::FLASH_SIZE;
 use digits::hexadecimal;
 use moments::moment_in;
@@ -35,26 +34,26 @@ fn address_named(word: &[u8]) -> Option<u64>
     number_below(FLASH_SIZE as u64, 4, word)
 }
 
-// Whether the option at a place can have a word.
+// Whether an option can have a word.
 #[tactic(auto, unfolding(crate::specs::Arguments::fits))]
-pub fn fits(p: usize, word: &[u8]) -> bool
+pub fn fits(p: Parameter, word: &[u8]) -> bool
     ensures { result ≡ fits p word.now }
 {
     match p {
-        BLOCK => block_named(word).is_some(),
-        FROM | TO => address_named(word).is_some(),
-        AT => moment_in(word, None).is_ok(),
+        Parameter::Block => block_named(word).is_some(),
+        Parameter::From | Parameter::To => address_named(word).is_some(),
+        Parameter::At => moment_in(word, None).is_ok(),
         _ => true,
     }
 }
 
-// What is wrong with a word that the option at a place can't have.
-pub fn complaint<'a>(p: usize, word: &'a [u8]) -> Trouble<'a>
+// What is wrong with a word that an option can't have.
+pub fn complaint<'a>(p: Parameter, word: &'a [u8]) -> Trouble<'a>
     ensures { result ≡ complaint p word.entry }
 {
     match p {
-        BLOCK => Trouble::NoBlock(word),
-        AT => Trouble::NoTime(word),
+        Parameter::Block => Trouble::NoBlock(word),
+        Parameter::At => Trouble::NoTime(word),
         _ => Trouble::NoAddress(word),
     }
 }
