@@ -35,9 +35,7 @@ fn byte_after(cells: &CellsRef, exposure: &Option<Exposure>, address: usize) -> 
 {
     match covering(exposure, address / PAGE) {
         None => cells.array[address],
-        Some(exposure) => {
-            sensed_after(cells, exposure, &Ceilings::of(Sense::Normal), address)
-        }
+        Some(exposure) => { sensed_after(cells, exposure, &Ceilings::of(Sense::Normal), address) }
     }
 }
 
@@ -60,38 +58,24 @@ fn stored_blank(array: &[u8], start: usize) -> bool
 }
 
 // Whether a page that an exposure covers is blank after it.
-fn sensed_blank(cells: &CellsRef, exposure: &Exposure, ceilings: &Ceilings, page: usize) -> bool
-    requires { (ceilings.now.sense ≡ Normal) × (page < pages) × (covers exposure.now.pulse page ≡ true) }
+fn sensed_blank(cells: &CellsRef, exposure: &Exposure, page: usize) -> bool
+    requires { (page < pages) × (covers exposure.now.pulse page ≡ true) }
     ensures { result ≡ all_blank page_bytes (page * page_bytes) (after_exposure (Some exposure.now) (cells_in cells.now)).array }
 {
+    let ceilings = Ceilings::of(Sense::Normal);
     let start = page * PAGE;
-    (start..start + PAGE).all(|address| sensed_after(cells, exposure, ceilings, address) == 0xFF)
+    (start..start + PAGE).all(|address| sensed_after(cells, exposure, &ceilings, address) == 0xFF)
 }
 
-// Whether a page is blank after an exposure, sensed by ceilings that many pages share.
-pub fn blank_after(
-    cells: &CellsRef,
-    exposure: &Option<Exposure>,
-    ceilings: &Ceilings,
-    page: usize,
-) -> bool
-    requires { (ceilings.now.sense ≡ Normal) × (page < pages) }
-    ensures { result ≡ all_blank page_bytes (page * page_bytes) (after_exposure exposure.now (cells_in cells.now)).array }
-{
-    match covering(exposure, page) {
-        None => stored_blank(cells.array, page * PAGE),
-        Some(exposure) => sensed_blank(cells, exposure, ceilings, page),
-    }
-}
-
-// The same of one page: ceilings are made only where it is sensed.
-fn one_blank(cells: &CellsRef, exposure: &Option<Exposure>, page: usize) -> bool
+// Whether a page is blank after an exposure. Ceilings are made where the page is sensed: made once for a map, they add a third to one
+// in which nothing is sensed.
+pub fn blank_after(cells: &CellsRef, exposure: &Option<Exposure>, page: usize) -> bool
     requires { page < pages }
     ensures { result ≡ all_blank page_bytes (page * page_bytes) (after_exposure exposure.now (cells_in cells.now)).array }
 {
     match covering(exposure, page) {
         None => stored_blank(cells.array, page * PAGE),
-        Some(exposure) => sensed_blank(cells, exposure, &Ceilings::of(Sense::Normal), page),
+        Some(exposure) => sensed_blank(cells, exposure, page),
     }
 }
 
@@ -101,7 +85,7 @@ pub fn blank_page(held: &Held, address: usize, time: Time) -> bool
     requires { address < array_bytes }
     ensures { result ≡ blank_at time (chip_of held.now) address }
 {
-    one_blank(&held.cells(), &exposure_at(held, time), address / PAGE)
+    blank_after(&held.cells(), &exposure_at(held, time), address / PAGE)
 }
 
 // The stored bytes from `start` to `end`, into `out`.

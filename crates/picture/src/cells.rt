@@ -10,11 +10,18 @@ use look::looking::charge_after;
 use settle::cells::CellsRef;
 use settle::exposure::Exposure;
 
-// Whether a cell of a page holds a charge after an exposure.
+// Whether a cell of a page holds a charge after an exposure. A loop: with `any` a map takes up to twice the time.
+#[tactic(auto, using(crate::proofs::Held::turns))]
 pub fn holds_charge(cells: &CellsRef, exposure: &Option<Exposure>, page: usize) -> bool
     requires { page < pages }
     ensures { result ≡ holds_charge (cell_at (after_exposure exposure.now (cells_in cells.now))) page_cells (page * page_cells) }
 {
     let start = page * PAGE_CELLS;
-    (start..start + PAGE_CELLS).any(|i| 0 < charge_after(cells, exposure, i))
+    for i in 0..PAGE_CELLS {
+        let charge = charge_after(cells, exposure, start + i);
+        if 0 < charge {
+            return true;
+        }
+    }
+    false
 }

@@ -1,7 +1,6 @@
 // The map: a mark for each page, by what is left of it.
 ghost use Rattle.std.specs.Prelude.{◌≡◌, ◌<◌, ◌≤◌, length};
 ghost use Rattle.time.specs.declared.Time.{Time};
-ghost use Rattle.cell.specs.declared.Sense.TheVariants.{Normal};
 ghost use Rattle.cell.specs.Cell.{pages};
 ghost use Rattle.settle.specs.Views.{cells_in, after_exposure};
 ghost use Rattle.flash.specs.Chip.{Chip, settled_at};
@@ -10,11 +9,10 @@ ghost use Rattle.picture.specs.Outputs.{written};
 ghost use Rattle.picture.specs.Marks.{charged_at, mark_at};
 
 use crate::cells::holds_charge;
-use cell::{PAGES, Sense};
+use cell::PAGES;
 use flash::held::Held;
 use look::imaging::blank_after;
 use look::looking::exposure_at;
-use sensing::limits::Ceilings;
 use settle::cells::CellsRef;
 use settle::exposure::Exposure;
 use time::Time;
@@ -29,16 +27,11 @@ pub fn charged(held: &Held, page: usize, time: Time) -> bool
 }
 
 // The mark of a page after an exposure, at each time whose settle would leave what it leaves.
-fn mark_after(
-    cells: &CellsRef,
-    exposure: &Option<Exposure>,
-    ceilings: &Ceilings,
-    page: usize,
-) -> u8
-    requires { (ceilings.now.sense ≡ Normal) × (page < pages) }
+fn mark_after(cells: &CellsRef, exposure: &Option<Exposure>, page: usize) -> u8
+    requires { page < pages }
     ensures { (t : Time) (k : Chip) → settled_at t k ≡ after_exposure exposure.now (cells_in cells.now) → result ≡ mark_at t k page }
 {
-    if !blank_after(cells, exposure, ceilings, page) {
+    if !blank_after(cells, exposure, page) {
         return b'#';
     }
     if holds_charge(cells, exposure, page) {
@@ -52,12 +45,7 @@ pub fn mark(held: &Held, page: usize, time: Time) -> u8
     requires { page < pages }
     ensures { result ≡ mark_at time (chip_of held.now) page }
 {
-    mark_after(
-        &held.cells(),
-        &exposure_at(held, time),
-        &Ceilings::of(Sense::Normal),
-        page,
-    )
+    mark_after(&held.cells(), &exposure_at(held, time), page)
 }
 
 // The marks of all pages at a time, into `out`, whose bytes past them stay: so it is a slice with room, and no array.
@@ -68,8 +56,7 @@ pub fn write_marks(held: &Held, time: Time, out: &mut [u8])
 {
     let cells = held.cells();
     let exposure = exposure_at(held, time);
-    let ceilings = Ceilings::of(Sense::Normal);
     for page in 0..PAGES {
-        out[page] = mark_after(&cells, &exposure, &ceilings, page);
+        out[page] = mark_after(&cells, &exposure, page);
     }
 }
