@@ -6,9 +6,9 @@ use options::Options;
 use slices::first;
 use std::rt::Files;
 use summary::{Judged, report};
-use telling::Told;
 use telling::files::{discarded, kept, picture_drafted, snapshot_drafted};
 use telling::saying::{say_report, say_unseen};
+use telling::{Outlets, Told};
 use time::Time;
 
 // No report is longer than 9,214 bytes (crates/summary/proofs/Fits.antt), of which 7,296 are a line for each legible page.
@@ -16,10 +16,8 @@ const REPORT: usize = 16384;
 
 // All files that were asked for are drafted, or none is.
 fn files_drafted<R: Files, S: Print>(
-    rt: &R,
-    snapshot: &[u8],
-    picture: &[u8],
-    says: &S,
+    outlets: Outlets<R, S>,
+    options: Options,
     memory: &mut Memory,
     time: Time,
 ) -> Result<(), Told> {
@@ -28,43 +26,22 @@ fn files_drafted<R: Files, S: Print>(
         array: &memory.array,
         charges: &memory.charges,
     };
-    snapshot_drafted(rt, snapshot, says, lent, &mut memory.buffer)?;
-    picture_drafted(rt, picture, says, lent, &mut memory.buffer, time).inspect_err(|_| discarded(
-        rt, snapshot,
-    ))
+    snapshot_drafted(outlets, options.snapshot, lent, &mut memory.buffer)?;
+    picture_drafted(outlets, options.picture, lent, &mut memory.buffer, time).inspect_err(
+        |_| discarded(outlets.rt, options.snapshot),
+    )
 }
 
 // All of them take their names. Where the first can't, the other's draft is removed.
-fn files_kept<R: Files, S: Print>(
-    rt: &R,
-    snapshot: &[u8],
-    picture: &[u8],
-    says: &S,
-) -> Result<(), Told> {
-    kept(rt, snapshot, says).inspect_err(|_| discarded(rt, picture))?;
-    kept(rt, picture, says)
-}
-
-// The files that were asked for are written.
-fn files_written<R: Files, S: Print>(
-    rt: &R,
-    options: Options,
-    says: &S,
-    memory: &mut Memory,
-    time: Time,
-) -> Result<(), Told> {
-    // An empty path names no file.
-    let snapshot = options.snapshot.unwrap_or(&[]);
-    let picture = options.picture.unwrap_or(&[]);
-    files_drafted(rt, snapshot, picture, says, memory, time)?;
-    files_kept(rt, snapshot, picture, says)
+fn files_kept<R: Files, S: Print>(outlets: Outlets<R, S>, options: Options) -> Result<(), Told> {
+    kept(outlets, options.snapshot).inspect_err(|_| discarded(outlets.rt, options.picture))?;
+    kept(outlets, options.picture)
 }
 
 // The report is made before files are written and said after, so that none is written of what can't be seen.
 pub fn finish<R: Files + Print, S: Print>(
-    rt: &R,
+    outlets: Outlets<R, S>,
     options: Options,
-    says: &S,
     course: Course,
     memory: &mut Memory,
 ) -> Result<(), Told> {
@@ -84,10 +61,11 @@ pub fn finish<R: Files + Print, S: Print>(
         time,
     )
     .map_err(|why| {
-        say_unseen(says, why);
+        say_unseen(outlets.says, why);
         Told
     })?;
-    files_written(rt, options, says, memory, time)?;
-    say_report(rt, first(&text, end));
+    files_drafted(outlets, options, memory, time)?;
+    files_kept(outlets, options)?;
+    say_report(outlets.rt, first(&text, end));
     Ok(())
 }

@@ -13,10 +13,10 @@ use lent::memory::{Lent, LentMut};
 use options::{Asked, Options, options_of};
 use session::read_history;
 use std::rt::Files;
-use telling::Told;
 use telling::beginning::{begin, last_settling};
 use telling::saying::say_help;
 use telling::troubles::complain;
+use telling::{Outlets, Told};
 
 // The memory of a run. What is called with it takes the parts.
 #[derive(Drop)]
@@ -48,31 +48,48 @@ const EMPTY: Memory = Memory {
     buffer: [0; BUFFER],
 };
 
+// An empty path names no file.
+fn named(path: Option<&[u8]>) -> Option<&[u8]> {
+    path.filter(|path| !path.is_empty())
+}
+
+// The same with no file that is not named.
+fn with_names(options: Options<'_>) -> Options<'_> {
+    Options {
+        image: named(options.image),
+        restore: named(options.restore),
+        picture: named(options.picture),
+        snapshot: named(options.snapshot),
+        ..options
+    }
+}
+
 // A run on lent memory.
 fn serve<R: Files + Print + Eprint, S: Print>(
-    rt: &R,
+    outlets: Outlets<R, S>,
     options: Options,
-    says: &S,
     memory: &mut Memory,
 ) -> Result<(), Told> {
-    // An empty path names no file either.
-    let image = options.image.unwrap_or(&[]);
-    let snapshot = options.restore.unwrap_or(&[]);
     let mut lent = LentMut {
         record: &mut memory.record,
         array: &mut memory.array,
         charges: &mut memory.charges,
     };
-    begin(rt, image, snapshot, says, &mut lent, &mut memory.buffer)?;
+    begin(
+        outlets,
+        options.image,
+        options.restore,
+        &mut lent,
+        &mut memory.buffer,
+    )?;
     let manner = Manner {
         events: options.events,
         go_on: options.go_on,
     };
     let course = begun(last_settling(lent.record));
     let after = read_history(
-        rt,
+        outlets,
         options.history,
-        says,
         manner,
         course,
         &mut lent,
@@ -80,16 +97,15 @@ fn serve<R: Files + Print + Eprint, S: Print>(
         &mut memory.buffer,
     )
     .ok_or(Told)?;
-    finish(rt, options, says, after, memory)
+    finish(outlets, options, after, memory)
 }
 
 fn serve_in_memory<R: Files + Print + Eprint, S: Print>(
-    rt: &R,
+    outlets: Outlets<R, S>,
     options: Options,
-    says: &S,
 ) -> Result<(), Told> {
     let mut memory = EMPTY;
-    serve(rt, options, says, &mut memory)
+    serve(outlets, options, &mut memory)
 }
 
 // A run of the program with some arguments, which come one after the other, a byte 0 after each. Complaints go to the
@@ -98,7 +114,7 @@ pub fn work<R: Files + Print + Eprint, S: Print>(rt: &R, args: &[u8], says: &S) 
     match options_of(args) {
         Ok(Asked::Help) => say_help(rt),
         Ok(Asked::Run(options)) => {
-            let _ = serve_in_memory(rt, options, says);
+            let _ = serve_in_memory(Outlets { rt, says }, with_names(options));
         }
         Err(trouble) => complain(says, trouble),
     }

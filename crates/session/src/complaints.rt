@@ -1,6 +1,7 @@
 // What a step of a run said is written, and what it complained of is put into words.
 use course::{Complaint, Noted};
 use slices::{first, part};
+use telling::Outlets;
 use telling::saying::{say_fault, say_look_refused, say_refusal};
 
 // A complaint about a line quotes it.
@@ -16,17 +17,16 @@ fn complain<S: Print>(says: &S, go_on: bool, line: &[u8], complaint: Complaint) 
 }
 
 pub fn tell<R: Print, S: Print>(
-    rt: &R,
-    says: &S,
+    outlets: Outlets<R, S>,
     go_on: bool,
     out: &[u8],
     noted: Noted,
     line: &[u8],
 ) {
     if 0 < noted.end {
-        let _ = rt.write_all(first(out, noted.end));
+        let _ = outlets.rt.write_all(first(out, noted.end));
     }
     if let Some(complaint) = noted.complaint {
-        complain(says, go_on, line, complaint);
+        complain(outlets.says, go_on, line, complaint);
     }
 }

@@ -14,6 +14,7 @@ use grammar::Line;
 use lent::memory::LentMut;
 use std::io;
 use std::rt::Files;
+use telling::Outlets;
 use telling::reading::open;
 use telling::saying::say_not_opened;
 
@@ -67,10 +68,9 @@ fn whole(run: Run) -> Option<Course>
 
 // Runs the open file's text on the flash in lent memory, and gives the course if the file was read whole.
 fn read_file<R: Print + Eprint, F: io::Read, S: Print>(
-    rt: &R,
+    outlets: Outlets<R, S>,
     file: &mut F,
     path: &[u8],
-    says: &S,
     manner: Manner,
     course: Course,
     memory: &mut LentMut,
@@ -87,10 +87,9 @@ fn read_file<R: Print + Eprint, F: io::Read, S: Print>(
     };
     let mut piece = [0u8; PIECE];
     let run = take_turns(
-        rt,
+        outlets,
         file,
         path,
-        says,
         manner,
         beginning(course),
         memory,
@@ -105,9 +104,8 @@ fn read_file<R: Print + Eprint, F: io::Read, S: Print>(
 // Runs the history in a file on the flash in lent memory, and gives the course of the run if the file was read whole and all calls in it were run. What
 // it says goes to standard output, its complaints to the writer that is lent for them.
 pub fn read_history<R: Files + Print + Eprint, S: Print>(
-    rt: &R,
+    outlets: Outlets<R, S>,
     path: &[u8],
-    says: &S,
     manner: Manner,
     course: Course,
     memory: &mut LentMut,
@@ -117,12 +115,12 @@ pub fn read_history<R: Files + Print + Eprint, S: Print>(
     ensures same_lent { SameLent memory.old memory.new }
     ensures whole { IfSome result (λ after. ReadWhole manner (desk course (memory_at memory.old) events.old) after (memory_at memory.new) events.new) }
 {
-    match open(rt, path) {
+    match open(outlets.rt, path) {
         Some(mut file) => read_file(
-            rt, &mut file, path, says, manner, course, memory, events, out,
+            outlets, &mut file, path, manner, course, memory, events, out,
         ),
         None => {
-            say_not_opened(says, path);
+            say_not_opened(outlets.says, path);
             None
         }
     }

@@ -6,7 +6,7 @@ use course::{Course, Place};
 
 // How many bytes the piece has, whether the file may have more, and whether it could not be read. An enum of the last two would be no
 // plainer: steps and definitions go by `more` alone. Once the file has no more, its last piece is passed, and when calls are run no more,
-// none waits.
+// none waits. `have` stands here and not with the piece, since definitions go by a run, a value that is copied, and a piece is memory.
 #[derive(Clone, Copy)]
 pub struct Run {
     pub course: Course,

@@ -12,6 +12,7 @@ use course::Ongoing;
 use course::memory::{Backlog, Buffer, Events};
 use lent::memory::LentMut;
 use steps::{Stepped, step};
+use telling::Outlets;
 use telling::saying::say_progress;
 
 // Progress is told each time that so many lines were read, more than a piece has.
@@ -53,10 +54,9 @@ fn note_lines<R: Eprint>(rt: &R, before: u64, after: u64) {
 // The next step, and what it said.
 #[tactic(auto, using(crate::proofs::Gone::still_inside))]
 pub fn next_step<R: Print + Eprint, S: Print>(
-    rt: &R,
+    outlets: Outlets<R, S>,
     run: Run,
     ongoing: Ongoing,
-    says: &S,
     memory: &mut LentMut,
     events: &mut Events,
     backlog: &mut Backlog,
@@ -68,8 +68,8 @@ pub fn next_step<R: Print + Eprint, S: Print>(
     ensures goes { Goes ongoing.manner run.more result.more (reader_of ongoing.manner run.place backlog.old (desk ongoing.course (memory_at memory.old) events.old)) (reader_in ongoing.manner result backlog.new (memory_at memory.new) events.new) }
 {
     let s = step_in_piece(run, ongoing, memory, events, backlog, piece, out);
-    tell(rt, says, ongoing.manner.go_on, out, s.noted, &backlog.line);
-    note_lines(rt, run.place.lines, s.place.lines);
+    tell(outlets, ongoing.manner.go_on, out, s.noted, &backlog.line);
+    note_lines(outlets.rt, run.place.lines, s.place.lines);
     let mut after = run;
     after.course = s.noted.course;
     after.place = s.place;

@@ -10,6 +10,7 @@ use course::memory::{Backlog, Buffer, Events};
 use course::{Manner, Ongoing};
 use lent::memory::LentMut;
 use std::io::Read;
+use telling::Outlets;
 
 // Whether calls are being run, or bytes of the piece are left.
 fn can_step(run: Run) -> bool
@@ -20,10 +21,9 @@ fn can_step(run: Run) -> bool
 
 // A step where one can be taken, else a piece where the file may have one.
 fn turn<R: Print + Eprint, F: Read, S: Print>(
-    rt: &R,
+    outlets: Outlets<R, S>,
     file: &mut F,
     path: &[u8],
-    says: &S,
     manner: Manner,
     run: Run,
     memory: &mut LentMut,
@@ -39,9 +39,9 @@ fn turn<R: Print + Eprint, F: Read, S: Print>(
         return run;
     };
     if can_step(run) {
-        next_step(rt, run, ongoing, says, memory, events, backlog, piece, out)
+        next_step(outlets, run, ongoing, memory, events, backlog, piece, out)
     } else if run.more {
-        next_piece(file, path, says, run, backlog, piece)
+        next_piece(file, path, outlets.says, run, backlog, piece)
     } else {
         run
     }
@@ -54,10 +54,9 @@ fn is_over(run: Run) -> bool {
 
 // Turn after turn. A proved loop has to end, and nothing says that a file does, so the turns are counted.
 pub fn take_turns<R: Print + Eprint, F: Read, S: Print>(
-    rt: &R,
+    outlets: Outlets<R, S>,
     file: &mut F,
     path: &[u8],
-    says: &S,
     manner: Manner,
     run: Run,
     memory: &mut LentMut,
@@ -70,9 +69,9 @@ pub fn take_turns<R: Print + Eprint, F: Read, S: Print>(
     ensures goes { Goes manner run.more result.more (reader_in manner run backlog.old (memory_at memory.old) events.old) (reader_in manner result backlog.new (memory_at memory.new) events.new) }
 {
     let mut r = run;
-    'turns: for _ in 0..u64::MAX {
+    for _ in 0..u64::MAX {
         r = turn(
-            rt, file, path, says, manner, r, memory, events, backlog, piece, out,
+            outlets, file, path, manner, r, memory, events, backlog, piece, out,
         );
         if is_over(r) {
             break;

@@ -1,9 +1,9 @@
 // What the history begins with: an empty flash, an image, or a snapshot.
 ghost use Rattle.lent.specs.Views.{SameLent};
 
-use crate::Told;
 use crate::reading::{open, read_full};
 use crate::saying::{say_image_length, say_no_snapshot, say_not_opened};
+use crate::{Outlets, Told};
 use cell::FLASH_SIZE;
 use lent::making::make;
 use lent::memory::LentMut;
@@ -30,13 +30,12 @@ fn begin_empty(memory: &mut LentMut) -> Result<(), Told>
 
 // A file's bytes, in the buffer, unless it can't be opened, which is then said.
 fn load<'a, R: Files, S: Print>(
-    rt: &R,
+    outlets: Outlets<R, S>,
     path: &[u8],
-    says: &S,
     buffer: &'a mut [u8],
 ) -> Result<&'a [u8], Told> {
-    let Some(mut file) = open(rt, path) else {
-        say_not_opened(says, path);
+    let Some(mut file) = open(outlets.rt, path) else {
+        say_not_opened(outlets.says, path);
         return Err(Told);
     };
     let n = read_full(&mut file, buffer);
@@ -44,17 +43,16 @@ fn load<'a, R: Files, S: Print>(
 }
 
 fn begin_from_image<R: Files, S: Print>(
-    rt: &R,
+    outlets: Outlets<R, S>,
     path: &[u8],
-    says: &S,
     memory: &mut LentMut,
     buffer: &mut [u8],
 ) -> Result<(), Told>
     ensures { SameLent memory.old memory.new }
 {
-    let image = load(rt, path, says, buffer)?;
+    let image = load(outlets, path, buffer)?;
     if image.len() != FLASH_SIZE {
-        say_image_length(says, path, image.len() as u64);
+        say_image_length(outlets.says, path, image.len() as u64);
         return Err(Told);
     }
     begin_with(image, memory)
@@ -62,37 +60,35 @@ fn begin_from_image<R: Files, S: Print>(
 
 // A snapshot is taken at the last instant that is accepted. Each call then has to come after its last settling.
 fn begin_from_snapshot<R: Files, S: Print>(
-    rt: &R,
+    outlets: Outlets<R, S>,
     path: &[u8],
-    says: &S,
     memory: &mut LentMut,
     buffer: &mut [u8],
 ) -> Result<(), Told>
     ensures { SameLent memory.old memory.new }
 {
-    let snapshot = load(rt, path, says, buffer)?;
+    let snapshot = load(outlets, path, buffer)?;
     let last = Time(u64::MAX - 1, u64::MAX);
     read_snapshot(snapshot, memory, last).map_err(|refusal| {
-        say_no_snapshot(says, path, refusal);
+        say_no_snapshot(outlets.says, path, refusal);
         Told
     })
 }
 
 // An image or a snapshot is begun with where one is named.
 pub fn begin<R: Files, S: Print>(
-    rt: &R,
-    image: &[u8],
-    snapshot: &[u8],
-    says: &S,
+    outlets: Outlets<R, S>,
+    image: Option<&[u8]>,
+    snapshot: Option<&[u8]>,
     memory: &mut LentMut,
     buffer: &mut [u8],
 ) -> Result<(), Told>
     ensures { SameLent memory.old memory.new }
 {
-    if !image.is_empty() {
-        begin_from_image(rt, image, says, memory, buffer)
-    } else if !snapshot.is_empty() {
-        begin_from_snapshot(rt, snapshot, says, memory, buffer)
+    if let Some(path) = image {
+        begin_from_image(outlets, path, memory, buffer)
+    } else if let Some(path) = snapshot {
+        begin_from_snapshot(outlets, path, memory, buffer)
     } else {
         begin_empty(memory)
     }

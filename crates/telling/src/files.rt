@@ -1,6 +1,6 @@
 // The files that a run writes: the state that it reached, and a picture of all cells. Both are drafts until each is whole.
-use crate::Told;
 use crate::saying::say_not_written;
+use crate::{Outlets, Told};
 use cell::CELLS;
 use drafts::{discard, draft, keep};
 use lent::memory::Lent;
@@ -23,64 +23,61 @@ fn unwritten<S: Print>(says: &S, path: &[u8]) -> Told {
 
 // A file that is asked for is drafted, or it is said that it can't be written.
 fn drafted<R: Files, S: Print>(
-    rt: &R,
+    outlets: Outlets<R, S>,
     path: &[u8],
-    says: &S,
     head: &[u8],
     rest: &[u8],
 ) -> Result<(), Told> {
-    draft(rt, path, head, rest).map_err(|_| unwritten(says, path))
+    draft(outlets.rt, path, head, rest).map_err(|_| unwritten(outlets.says, path))
 }
 
 // The snapshot is drafted, if one is asked for.
 pub fn snapshot_drafted<R: Files, S: Print>(
-    rt: &R,
-    path: &[u8],
-    says: &S,
+    outlets: Outlets<R, S>,
+    path: Option<&[u8]>,
     lent: Lent,
     buffer: &mut [u8],
 ) -> Result<(), Told> {
-    if path.is_empty() {
+    let Some(path) = path else {
         return Ok(());
-    }
-    let length = write_snapshot(lent, buffer).map_err(|_| unwritten(says, path))?;
-    drafted(rt, path, says, b"", first(buffer, length))
+    };
+    let length = write_snapshot(lent, buffer).map_err(|_| unwritten(outlets.says, path))?;
+    drafted(outlets, path, b"", first(buffer, length))
 }
 
 // The picture is drafted, if one is asked for.
 pub fn picture_drafted<R: Files, S: Print>(
-    rt: &R,
-    path: &[u8],
-    says: &S,
+    outlets: Outlets<R, S>,
+    path: Option<&[u8]>,
     lent: Lent,
     buffer: &mut [u8],
     time: Time,
 ) -> Result<(), Told> {
-    if path.is_empty() {
+    let Some(path) = path else {
         return Ok(());
-    }
-    see_shades(lent, time, buffer).map_err(|_| unwritten(says, path))?;
+    };
+    see_shades(lent, time, buffer).map_err(|_| unwritten(outlets.says, path))?;
     let mut head = [0u8; HEAD];
     let mut text = Text::new(&mut head);
     picture_head(&mut text);
-    drafted(rt, path, says, text.as_bytes(), first(buffer, CELLS))
+    drafted(outlets, path, text.as_bytes(), first(buffer, CELLS))
 }
 
 // A file that was asked for takes its name, or its draft is removed.
-pub fn kept<R: Files, S: Print>(rt: &R, path: &[u8], says: &S) -> Result<(), Told> {
-    if path.is_empty() {
+pub fn kept<R: Files, S: Print>(outlets: Outlets<R, S>, path: Option<&[u8]>) -> Result<(), Told> {
+    let Some(path) = path else {
         return Ok(());
-    }
-    keep(rt, path).map_err(|_| {
-        let told = unwritten(says, path);
-        discard(rt, path);
+    };
+    keep(outlets.rt, path).map_err(|_| {
+        let told = unwritten(outlets.says, path);
+        discard(outlets.rt, path);
         told
     })
 }
 
 // A draft of a file that was asked for is removed.
-pub fn discarded<R: Files>(rt: &R, path: &[u8]) {
-    if !path.is_empty() {
+pub fn discarded<R: Files>(rt: &R, path: Option<&[u8]>) {
+    if let Some(path) = path {
         discard(rt, path);
     }
 }

@@ -8,6 +8,13 @@ pub mod reading;
 pub mod saying;
 pub mod troubles;
 
+// Where a run reads and writes, and says what it tells of, and the writer that is lent for its complaints.
+#[derive_where(Clone, Copy)]
+pub struct Outlets<'a, R, S> {
+    pub rt: &'a R,
+    pub says: &'a S,
+}
+
 // Why a run can't go on was said.
 #[derive(Clone, Copy, Debug, PartialEq, Eq)]
 pub struct Told;

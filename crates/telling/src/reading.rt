@@ -16,9 +16,8 @@ pub fn read_full<F: Read>(file: &mut F, buffer: &mut [u8]) -> usize {
     // No for: a turn goes as far as one read.
     while done < buffer.len() {
         match file.read(&mut buffer[done..]) {
-            Ok(0) => return done,
+            Ok(0) | Err(_) => return done,
             Ok(n) => done += n,
-            Err(_) => return done,
         }
     }
     done

@@ -3,7 +3,7 @@ use Rattle.lent.specs.Views.{memory_at, SameLent}
 use Rattle.session.specs.Going.{Goes, reader_in}
 use Rattle.session.proofs.turns.take_turns.Given as goal
 
-abbrev pub invariant-turns : goal.invariant-turns
-invariant-turns g l =
+abbrev pub invariant-loop : goal.invariant-loop
+invariant-loop g l =
     SameLent l.initial.memory l.memory
     × Goes l.manner l.initial.r.more l.r.more (reader_in l.manner l.initial.r l.initial.backlog (memory_at l.initial.memory) l.initial.events) (reader_in l.manner l.r l.backlog (memory_at l.memory) l.events)
