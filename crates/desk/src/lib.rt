@@ -6,7 +6,7 @@ mod finishing;
 
 use crate::finishing::finish;
 use cell::{CELLS, FLASH_SIZE};
-use course::memory::{Array, BUFFER, Buffer, Charges, Events, Record};
+use course::memory::{Array, BUFFER, Bench, Buffer, Charges, Events, Record};
 use course::{Manner, begun};
 use layout::{EVENT_WORDS, RECORD_LEN};
 use lent::memory::{Lent, LentMut};
@@ -87,16 +87,12 @@ fn serve<R: Files + Print + Eprint, S: Print>(
         go_on: options.go_on,
     };
     let course = begun(last_settling(lent.record));
-    let after = read_history(
-        outlets,
-        options.history,
-        manner,
-        course,
-        &mut lent,
-        &mut memory.events,
-        &mut memory.buffer,
-    )
-    .ok_or(Told)?;
+    let mut bench = Bench {
+        memory: lent,
+        events: &mut memory.events,
+        out: &mut memory.buffer,
+    };
+    let after = read_history(outlets, options.history, manner, course, &mut bench).ok_or(Told)?;
     finish(outlets, options, after, memory)
 }
 

@@ -21,8 +21,8 @@ use Rattle.course.proofs.Claimed.{runs}
 use Rattle.feeding.specs.Feeding.{between}
 use Rattle.steps.specs.Stepping.{Steps, Closes, reader_of}
 use Rattle.steps.proofs.Lines.{place-sound}
-use Rattle.lent.specs.declared.memory.LentMut.{LentMut}
-use Rattle.lent.specs.Views.{SameLent}
+use Rattle.course.specs.declared.memory.Bench.{Bench}
+use Rattle.course.specs.Views.{SameBench}
 use Rattle.session.specs.declared.run.Run.{Run}
 use Rattle.session.specs.Going.{Standing, read_on, Goes, reader_in, ReadWhole, Begins, WithPiece, with_failure, Moves, CanStep}
 
@@ -142,14 +142,18 @@ no-piece r b = record { goes = λ w m events. goes-nowhere w r.more (reader_in w
 pub running-steps : (r : Run) → r.place.running ≡ true → CanStep r true
 running-steps r h = record { can = λ e reads. absurd (true≢false (sym h ∙ reads)); stays = λ e. absurd (true≢false e) }
 
-pub same-lent : (m : LentMut) → SameLent m m
-same-lent m = record { same_record = refl; same_array = refl; same_charges = refl }
+pub same-bench : (x : Bench) → SameBench x x
+same-bench x = record { same_lent = record { same_record = refl; same_array = refl; same_charges = refl }; same_events = refl; same_out = refl }
 
-pub still-lent : {m m' m'' : LentMut} → SameLent m m' → SameLent m' m'' → SameLent m m''
-still-lent h k = record {
-  same_record = k.same_record ∙ h.same_record;
-  same_array = k.same_array ∙ h.same_array;
-  same_charges = k.same_charges ∙ h.same_charges;
+pub still-bench : {x y z : Bench} → SameBench x y → SameBench y z → SameBench x z
+still-bench h k = record {
+  same_lent = record {
+    same_record = k.same_lent.same_record ∙ h.same_lent.same_record;
+    same_array = k.same_lent.same_array ∙ h.same_lent.same_array;
+    same_charges = k.same_lent.same_charges ∙ h.same_lent.same_charges;
+  };
+  same_events = k.same_events ∙ h.same_events;
+  same_out = k.same_out ∙ h.same_out;
 }
 
 -- what a run keeps is what the definition asks of it

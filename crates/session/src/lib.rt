@@ -2,16 +2,15 @@
 #![tactic(auto)]
 
 ghost use Rattle.std.specs.Prelude.{◌≡◌, false, IfSome};
-ghost use Rattle.lent.specs.Views.{memory_at, SameLent};
-ghost use Rattle.course.specs.Desk.{desk};
+ghost use Rattle.lent.specs.Views.{memory_at};
+ghost use Rattle.course.specs.Views.{desk_at, SameBench};
 ghost use Rattle.session.specs.Going.{Begins, ReadWhole};
 
 use crate::run::Run;
 use crate::turns::take_turns;
-use course::memory::{Backlog, Buffer, Events, LONGEST, NUMBERS, ROOM};
+use course::memory::{Backlog, Bench, LONGEST, NUMBERS, ROOM};
 use course::{Course, LineSoFar, Manner, Place};
 use grammar::Line;
-use lent::memory::LentMut;
 use std::io;
 use std::rt::Files;
 use telling::Outlets;
@@ -73,12 +72,10 @@ fn read_file<R: Print + Eprint, F: io::Read, S: Print>(
     path: &[u8],
     manner: Manner,
     course: Course,
-    memory: &mut LentMut,
-    events: &mut Events,
-    out: &mut Buffer,
+    bench: &mut Bench,
 ) -> Option<Course>
-    ensures same_lent { SameLent memory.old memory.new }
-    ensures whole { IfSome result (λ after. ReadWhole manner (desk course (memory_at memory.old) events.old) after (memory_at memory.new) events.new) }
+    ensures same { SameBench bench.old bench.new }
+    ensures whole { IfSome result (λ after. ReadWhole manner (desk_at course bench.old) after (memory_at bench.new.memory) bench.new.events.now) }
 {
     let mut backlog = Backlog {
         calls: [0; NUMBERS * ROOM],
@@ -92,11 +89,9 @@ fn read_file<R: Print + Eprint, F: io::Read, S: Print>(
         path,
         manner,
         beginning(course),
-        memory,
-        events,
+        bench,
         &mut backlog,
         &mut piece,
-        out,
     );
     whole(run)
 }
@@ -108,17 +103,13 @@ pub fn read_history<R: Files + Print + Eprint, S: Print>(
     path: &[u8],
     manner: Manner,
     course: Course,
-    memory: &mut LentMut,
-    events: &mut Events,
-    out: &mut Buffer,
+    bench: &mut Bench,
 ) -> Option<Course>
-    ensures same_lent { SameLent memory.old memory.new }
-    ensures whole { IfSome result (λ after. ReadWhole manner (desk course (memory_at memory.old) events.old) after (memory_at memory.new) events.new) }
+    ensures same { SameBench bench.old bench.new }
+    ensures whole { IfSome result (λ after. ReadWhole manner (desk_at course bench.old) after (memory_at bench.new.memory) bench.new.events.now) }
 {
     match open(outlets.rt, path) {
-        Some(mut file) => read_file(
-            outlets, &mut file, path, manner, course, memory, events, out,
-        ),
+        Some(mut file) => read_file(outlets, &mut file, path, manner, course, bench),
         None => {
             say_not_opened(outlets.says, path);
             None

@@ -1,7 +1,7 @@
 // One step of a run with the bytes of a piece, and what it said.
 ghost use Rattle.std.specs.Prelude.{◌≡◌, false, ◌<◌, length, take};
-ghost use Rattle.lent.specs.Views.{memory_at, SameLent};
-ghost use Rattle.course.specs.Desk.{desk};
+ghost use Rattle.lent.specs.Views.{memory_at};
+ghost use Rattle.course.specs.Views.{desk_at, SameBench};
 ghost use Rattle.steps.specs.Stepping.{Steps, reader_of};
 ghost use Rattle.session.specs.Going.{Goes, reader_in};
 
@@ -9,8 +9,7 @@ use crate::Piece;
 use crate::complaints::tell;
 use crate::run::Run;
 use course::Ongoing;
-use course::memory::{Backlog, Buffer, Events};
-use lent::memory::LentMut;
+use course::memory::{Backlog, Bench};
 use steps::{Stepped, step};
 use telling::Outlets;
 use telling::saying::say_progress;
@@ -22,25 +21,15 @@ const MANY: u64 = 100000;
 fn step_in_piece(
     run: Run,
     ongoing: Ongoing,
-    memory: &mut LentMut,
-    events: &mut Events,
+    bench: &mut Bench,
     backlog: &mut Backlog,
     piece: &Piece,
-    out: &mut Buffer,
 ) -> Stepped
-    ensures same_lent { SameLent memory.old memory.new }
+    ensures same { SameBench bench.old bench.new }
     ensures long { length (take run.have piece.now) ≡ run.have }
-    ensures steps { Steps ongoing.manner run.place backlog.old (take run.have piece.now) (desk ongoing.course (memory_at memory.old) events.old) result.place backlog.new result.noted (memory_at memory.new) events.new out.old out.new }
+    ensures steps { Steps ongoing.manner run.place backlog.old (take run.have piece.now) (desk_at ongoing.course bench.old) result.place backlog.new result.noted (memory_at bench.new.memory) bench.new.events.now bench.old.out.now bench.new.out.now }
 {
-    step(
-        ongoing,
-        run.place,
-        memory,
-        events,
-        backlog,
-        &piece[..run.have],
-        out,
-    )
+    step(ongoing, run.place, bench, backlog, &piece[..run.have])
 }
 
 // Progress is told where a multiple of so many lines was passed.
@@ -57,17 +46,16 @@ pub fn next_step<R: Print + Eprint, S: Print>(
     outlets: Outlets<R, S>,
     run: Run,
     ongoing: Ongoing,
-    memory: &mut LentMut,
-    events: &mut Events,
+    bench: &mut Bench,
     backlog: &mut Backlog,
     piece: &Piece,
-    out: &mut Buffer,
 ) -> Run
     requires { run.place.running ≡ false → run.place.at < run.have }
-    ensures same_lent { SameLent memory.old memory.new }
-    ensures goes { Goes ongoing.manner run.more result.more (reader_of ongoing.manner run.place backlog.old (desk ongoing.course (memory_at memory.old) events.old)) (reader_in ongoing.manner result backlog.new (memory_at memory.new) events.new) }
+    ensures same { SameBench bench.old bench.new }
+    ensures goes { Goes ongoing.manner run.more result.more (reader_of ongoing.manner run.place backlog.old (desk_at ongoing.course bench.old)) (reader_in ongoing.manner result backlog.new (memory_at bench.new.memory) bench.new.events.now) }
 {
-    let s = step_in_piece(run, ongoing, memory, events, backlog, piece, out);
+    let s = step_in_piece(run, ongoing, bench, backlog, piece);
+    let out = &mut *bench.out;
     tell(outlets, ongoing.manner.go_on, out, s.noted, &backlog.line);
     note_lines(outlets.rt, run.place.lines, s.place.lines);
     let mut after = run;

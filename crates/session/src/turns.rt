@@ -1,14 +1,14 @@
 // A run goes on turn by turn: a step, or a new piece.
-ghost use Rattle.lent.specs.Views.{memory_at, SameLent};
+ghost use Rattle.lent.specs.Views.{memory_at};
+ghost use Rattle.course.specs.Views.{SameBench};
 ghost use Rattle.session.specs.Going.{Goes, CanStep, reader_in};
 
 use crate::Piece;
 use crate::pieces::next_piece;
 use crate::run::Run;
 use crate::stepping::next_step;
-use course::memory::{Backlog, Buffer, Events};
+use course::memory::{Backlog, Bench};
 use course::{Manner, Ongoing};
-use lent::memory::LentMut;
 use std::io::Read;
 use telling::Outlets;
 
@@ -26,20 +26,18 @@ fn turn<R: Print + Eprint, F: Read, S: Print>(
     path: &[u8],
     manner: Manner,
     run: Run,
-    memory: &mut LentMut,
-    events: &mut Events,
+    bench: &mut Bench,
     backlog: &mut Backlog,
     piece: &mut Piece,
-    out: &mut Buffer,
 ) -> Run
-    ensures same_lent { SameLent memory.old memory.new }
-    ensures goes { Goes manner run.more result.more (reader_in manner run backlog.old (memory_at memory.old) events.old) (reader_in manner result backlog.new (memory_at memory.new) events.new) }
+    ensures same { SameBench bench.old bench.new }
+    ensures goes { Goes manner run.more result.more (reader_in manner run backlog.old (memory_at bench.old.memory) bench.old.events.now) (reader_in manner result backlog.new (memory_at bench.new.memory) bench.new.events.now) }
 {
     let Some(ongoing) = Ongoing::of(run.course, manner) else {
         return run;
     };
     if can_step(run) {
-        next_step(outlets, run, ongoing, memory, events, backlog, piece, out)
+        next_step(outlets, run, ongoing, bench, backlog, piece)
     } else if run.more {
         next_piece(file, path, outlets.says, run, backlog, piece)
     } else {
@@ -59,20 +57,16 @@ pub fn take_turns<R: Print + Eprint, F: Read, S: Print>(
     path: &[u8],
     manner: Manner,
     run: Run,
-    memory: &mut LentMut,
-    events: &mut Events,
+    bench: &mut Bench,
     backlog: &mut Backlog,
     piece: &mut Piece,
-    out: &mut Buffer,
 ) -> Run
-    ensures same_lent { SameLent memory.old memory.new }
-    ensures goes { Goes manner run.more result.more (reader_in manner run backlog.old (memory_at memory.old) events.old) (reader_in manner result backlog.new (memory_at memory.new) events.new) }
+    ensures same { SameBench bench.old bench.new }
+    ensures goes { Goes manner run.more result.more (reader_in manner run backlog.old (memory_at bench.old.memory) bench.old.events.now) (reader_in manner result backlog.new (memory_at bench.new.memory) bench.new.events.now) }
 {
     let mut r = run;
     for _ in 0..u64::MAX {
-        r = turn(
-            outlets, file, path, manner, r, memory, events, backlog, piece, out,
-        );
+        r = turn(outlets, file, path, manner, r, bench, backlog, piece);
         if is_over(r) {
             break;
         }
