@@ -1,6 +1,5 @@
 // A picture that a run wrote: its length, and its pixels counted and summed up.
 use cell::CELLS;
-use course::more;
 use slices::first;
 use std::fs;
 use std::rt::Files;
@@ -18,8 +17,8 @@ struct Pixels {
 
 fn with_pixel(pixels: Pixels, shade: u8) -> Pixels {
     Pixels {
-        bright: more(pixels.bright, u64::from(0 < shade)),
-        sum: more(pixels.sum, u64::from(shade)),
+        bright: pixels.bright.saturating_add(u64::from(0 < shade)),
+        sum: pixels.sum.saturating_add(u64::from(shade)),
     }
 }
 
