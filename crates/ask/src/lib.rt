@@ -5,7 +5,7 @@ ghost use Rattle.std.specs.Prelude.{◌≡◌, ◌<◌};
 ghost use Rattle.refusal.specs.Refusal.{told};
 ghost use Rattle.flash.specs.Chip.{answer_limit};
 ghost use Rattle.lent.specs.Asked.{call_of, outcome, value_of, count_of};
-ghost use Rattle.lent.specs.Views.{memory_at, SameLent, Leaves};
+ghost use Rattle.lent.specs.Views.{memory_at, SameLent, LeavesLent};
 
 use coding::write;
 use lent::checking::{call_of, call_refusal};
@@ -23,7 +23,7 @@ pub fn ask(
     time: Time,
 ) -> Result<Answer, Refusal>
     ensures same { SameLent memory.old memory.new }
-    ensures left { Leaves (outcome request time events.old (memory_at memory.old)) (told result) (count_of result) memory.new events.new }
+    ensures left { LeavesLent (outcome request time events.old (memory_at memory.old)) (told result) (count_of result) memory.new events.new }
     ensures value { value_of result ≡ (outcome request time events.old (memory_at memory.old)).value }
     ensures limit { value_of result < answer_limit (call_of request) }
 {

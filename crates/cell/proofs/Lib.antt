@@ -4,6 +4,5 @@ pub mod Class
 pub mod Partly
 pub mod Slot
 pub mod Rule
-pub mod Amount
 pub mod Sensed
 pub mod Ceiling

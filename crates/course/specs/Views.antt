@@ -7,8 +7,8 @@ use Rattle.course.specs.declared.memory.Bench.{Bench}
 use Rattle.course.specs.Desk.{Desk, desk}
 
 -- a course over lent memory and its event words
-abbrev pub desk_at : Course → Bench → Desk
-desk_at c bench = desk c (memory_at bench.memory) bench.events.now
+abbrev pub desk_on : Course → Bench → Desk
+desk_on c bench = desk c (memory_at bench.memory) bench.events.now
 
 -- The same is lent as before, whatever it holds.
 pub record SameBench (old new : Bench) : Type 0 where

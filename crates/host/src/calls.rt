@@ -5,7 +5,7 @@ ghost use Rattle.flash.specs.Chip.{answer_limit};
 ghost use Rattle.lent.specs.declared.Request.TheVariants.{WriteRegister, Write8, Read8, Read16, Protect, Reset, PowerOff, Environment};
 ghost use Rattle.lent.specs.Asked.{call_of, outcome, value_of, Told};
 ghost use Rattle.lent.specs.Looked.{answered};
-ghost use Rattle.lent.specs.Views.{memory_at, SameLent, Leaves};
+ghost use Rattle.lent.specs.Views.{memory_at, SameLent, LeavesLent};
 
 use ask::ask;
 use lent::memory::LentMut;
@@ -22,7 +22,7 @@ fn called(
     count: &mut u64,
 ) -> Result<Answer, Refusal>
     ensures same { SameLent memory.old memory.new }
-    ensures left { Leaves (outcome request time events.old (memory_at memory.old)) (told result) count.new memory.new events.new }
+    ensures left { LeavesLent (outcome request time events.old (memory_at memory.old)) (told result) count.new memory.new events.new }
     ensures value { value_of result ≡ (outcome request time events.old (memory_at memory.old)).value }
     ensures limit { value_of result < answer_limit (call_of request) }
 {

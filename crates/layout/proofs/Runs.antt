@@ -11,7 +11,6 @@ use lib.Seq.{take_all, take-suc, take-suc-set}
 use Rattle.cell.specs.Cell.{mapi}
 use Rattle.cell.proofs.Partly.{partly, partly-turn, partly-all}
 use Rattle.layout.specs.Layout.{word, bytes, row, row_bytes}
-use Rattle.layout.proofs.Widths.{bytes-split}
 
 -- ---- reading
 
@@ -68,13 +67,6 @@ module _ (w place : ℕ) (l₀ v : List ℕ) where
 pub put_one : (l : List ℕ) (k b : ℕ) → k < length l → b < 256 → take (k + 1) (set l k b) ≡ take k l ++ bytes 1 b
 unfolding bytes
 put_one l k b h s = let e : b % 256 ≡ b = omega arith in rw (add-one k, e) (take-suc-set l k b h)
-
--- two numbers side by side
-pub put_two : (m n place v l h : ℕ) (s s₁ s₂ : List ℕ) → take (place + m) s₁ ≡ take place s ++ bytes m l
-    → take (place + m + n) s₂ ≡ take (place + m) s₁ ++ bytes n h → l < 256 ^ m → v ≡ l + 256 ^ m * h
-    → take (place + (m + n)) s₂ ≡ take place s ++ bytes (m + n) v
-put_two m n place v l h s s₁ s₂ e f b d =
-    rw (← (add_assoc place m n), f, e, d, bytes-split m n l h b) (append_assoc (take place s) (bytes m l) (bytes n h))
 
 -- a row written after what stands already
 pub row-after : (w k n m : ℕ) (l l' v v' ys : List ℕ) → v ≡ v' → length v' ≡ n → m ≡ k + w * n

@@ -29,5 +29,5 @@ Opens refusal m (Ok held) = (refusal ≡ 0) × (chip_of held ≡ chip_in m)
 Opens refusal m (Err r) = number r ≡ refusal
 
 -- what a call leaves in lent memory, of its outcome
-abbrev pub Leaves : Outcome → ℕ → ℕ → LentMut → List ℕ → Type 0
-Leaves o number count lent events = Told o number count lent.«record».now lent.array.now lent.charges.now events
+abbrev pub LeavesLent : Outcome → ℕ → ℕ → LentMut → List ℕ → Type 0
+LeavesLent o number count lent events = Told o number count lent.«record».now lent.array.now lent.charges.now events

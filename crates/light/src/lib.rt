@@ -12,7 +12,7 @@ use bits::{E, ESU, FENR, P, PSU, SWE, has};
 use control::Supply;
 use flash::Flash;
 use lent::checking::last_second;
-use listing::KIND;
+use listing::{KIND, NUMBERS};
 use registers::Registers;
 use time::Time;
 use time::accepted::Accepted;
@@ -101,8 +101,8 @@ fn run_writes(flash: Flash, calls: &[u64], from: usize, end: usize) -> Ahead
     // No for: where the loop has come to is part of the answer, also where it begins past the end.
     let mut i: usize = from;
     while i < end {
-        let what = calls[3 * i];
-        let time = Time(calls[3 * i + 1], calls[3 * i + 2]);
+        let what = calls[NUMBERS * i];
+        let time = Time(calls[NUMBERS * i + 1], calls[NUMBERS * i + 2]);
         if !is_light(may, settings.control, since, what, time) {
             return Ahead {
                 flash: lit(flash, settings, since),

@@ -9,7 +9,7 @@ ghost use Rattle.listing.specs.Replaying.{asks, Replays};
 use coding::write;
 use lent::Answer;
 use lent::memory::LentMut;
-use listing::Replayed;
+use listing::{NUMBERS, Replayed};
 use running::run;
 
 // The calls from..to, up to one that is refused, gives event words or reads. Past the list's end there is nothing to do.
@@ -23,7 +23,7 @@ pub fn replay(
     ensures same { SameLent memory.old memory.new }
     ensures done { Replays from (asks from to calls.now events.old (memory_at memory.old)) events.old (memory_at memory.old) result.done (told result.last) (value_of result.last) (count_of result.last) memory.new.«record».now memory.new.array.now memory.new.charges.now events.new }
 {
-    let end = to.min(calls.len() / 3);
+    let end = to.min(calls.len() / NUMBERS);
     if end <= from {
         return Replayed {
             done: from,

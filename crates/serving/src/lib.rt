@@ -1,7 +1,7 @@
 // Calls that wait are run, and what they came to is noted: counted, said or complained of.
 #![tactic(auto)]
 
-ghost use Rattle.std.specs.Prelude.{◌≡◌, ◌-◌, ◌*◌, ◌≤◌, ◌<◌, Ok, length, take};
+ghost use Rattle.std.specs.Prelude.{◌≡◌, ◌-◌, ◌*◌, ◌≤◌, ◌<◌, Ok, length};
 ghost use Rattle.lent.specs.Views.{memory_at, SameLent};
 ghost use Rattle.course.specs.Desk.{desk, made, noted};
 ghost use Rattle.serving.specs.Noting.{passed, noted_at_once};

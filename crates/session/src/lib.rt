@@ -3,7 +3,7 @@
 
 ghost use Rattle.std.specs.Prelude.{◌≡◌, false, IfSome};
 ghost use Rattle.lent.specs.Views.{memory_at};
-ghost use Rattle.course.specs.Views.{desk_at, SameBench};
+ghost use Rattle.course.specs.Views.{desk_on, SameBench};
 ghost use Rattle.session.specs.Going.{Begins, ReadWhole};
 
 use crate::run::Run;
@@ -75,7 +75,7 @@ fn read_file<R: Print + Eprint, F: io::Read, S: Print>(
     bench: &mut Bench,
 ) -> Option<Course>
     ensures same { SameBench bench.old bench.new }
-    ensures whole { IfSome result (λ after. ReadWhole manner (desk_at course bench.old) after (memory_at bench.new.memory) bench.new.events.now) }
+    ensures whole { IfSome result (λ after. ReadWhole manner (desk_on course bench.old) after (memory_at bench.new.memory) bench.new.events.now) }
 {
     let mut backlog = Backlog {
         calls: [0; NUMBERS * ROOM],
@@ -106,7 +106,7 @@ pub fn read_history<R: Files + Print + Eprint, S: Print>(
     bench: &mut Bench,
 ) -> Option<Course>
     ensures same { SameBench bench.old bench.new }
-    ensures whole { IfSome result (λ after. ReadWhole manner (desk_at course bench.old) after (memory_at bench.new.memory) bench.new.events.now) }
+    ensures whole { IfSome result (λ after. ReadWhole manner (desk_on course bench.old) after (memory_at bench.new.memory) bench.new.events.now) }
 {
     match open(outlets.rt, path) {
         Some(mut file) => read_file(outlets, &mut file, path, manner, course, bench),

@@ -1,7 +1,7 @@
 // One step of a run with the bytes of a piece, and what it said.
 ghost use Rattle.std.specs.Prelude.{◌≡◌, false, ◌<◌, length, take};
 ghost use Rattle.lent.specs.Views.{memory_at};
-ghost use Rattle.course.specs.Views.{desk_at, SameBench};
+ghost use Rattle.course.specs.Views.{desk_on, SameBench};
 ghost use Rattle.steps.specs.Stepping.{Steps, reader_of};
 ghost use Rattle.session.specs.Going.{Goes, reader_in};
 
@@ -27,7 +27,7 @@ fn step_in_piece(
 ) -> Stepped
     ensures same { SameBench bench.old bench.new }
     ensures long { length (take run.have piece.now) ≡ run.have }
-    ensures steps { Steps ongoing.manner run.place backlog.old (take run.have piece.now) (desk_at ongoing.course bench.old) result.place backlog.new result.noted (memory_at bench.new.memory) bench.new.events.now bench.old.out.now bench.new.out.now }
+    ensures steps { Steps ongoing.manner run.place backlog.old (take run.have piece.now) (desk_on ongoing.course bench.old) result.place backlog.new result.noted (memory_at bench.new.memory) bench.new.events.now bench.old.out.now bench.new.out.now }
 {
     step(ongoing, run.place, bench, backlog, &piece[..run.have])
 }
@@ -52,7 +52,7 @@ pub fn next_step<R: Print + Eprint, S: Print>(
 ) -> Run
     requires { run.place.running ≡ false → run.place.at < run.have }
     ensures same { SameBench bench.old bench.new }
-    ensures goes { Goes ongoing.manner run.more result.more (reader_of ongoing.manner run.place backlog.old (desk_at ongoing.course bench.old)) (reader_in ongoing.manner result backlog.new (memory_at bench.new.memory) bench.new.events.now) }
+    ensures goes { Goes ongoing.manner run.more result.more (reader_of ongoing.manner run.place backlog.old (desk_on ongoing.course bench.old)) (reader_in ongoing.manner result backlog.new (memory_at bench.new.memory) bench.new.events.now) }
 {
     let s = step_in_piece(run, ongoing, bench, backlog, piece);
     let out = &mut *bench.out;

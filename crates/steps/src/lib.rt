@@ -5,7 +5,7 @@
 
 ghost use Rattle.std.specs.Prelude.{◌≤◌, length};
 ghost use Rattle.lent.specs.Views.{memory_at};
-ghost use Rattle.course.specs.Views.{desk_at, SameBench};
+ghost use Rattle.course.specs.Views.{desk_on, SameBench};
 ghost use Rattle.steps.specs.Stepping.{Steps};
 
 use crate::reading::read_lines;
@@ -37,7 +37,7 @@ pub fn step(
 ) -> Stepped
     requires { place.at ≤ length piece.now }
     ensures same { SameBench bench.old bench.new }
-    ensures steps { Steps ongoing.manner place backlog.old piece.now (desk_at ongoing.course bench.old) result.place backlog.new result.noted (memory_at bench.new.memory) bench.new.events.now bench.old.out.now bench.new.out.now }
+    ensures steps { Steps ongoing.manner place backlog.old piece.now (desk_on ongoing.course bench.old) result.place backlog.new result.noted (memory_at bench.new.memory) bench.new.events.now bench.old.out.now bench.new.out.now }
 {
     if place.running {
         run_on(ongoing, place, bench, backlog)

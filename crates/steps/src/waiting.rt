@@ -4,7 +4,7 @@ ghost use Rattle.std.specs.Prelude.{◌≡◌, true, List, ℕ, ◌≤◌, ◌<�
 ghost use Rattle.lent.specs.Views.{memory_at};
 ghost use Rattle.course.specs.declared.memory.Backlog.{Backlog};
 ghost use Rattle.course.specs.Desk.{desk};
-ghost use Rattle.course.specs.Views.{desk_at, SameBench};
+ghost use Rattle.course.specs.Views.{desk_on, SameBench};
 ghost use Rattle.steps.specs.Stepping.{Does};
 
 use crate::Stepped;
@@ -20,7 +20,7 @@ use serving::serve;
 fn serve_some(ongoing: Ongoing, place: Place, bench: &mut Bench, backlog: &Backlog) -> Stepped
     requires { (place.next < place.waiting) × (place.running ≡ true) }
     ensures same { SameBench bench.old bench.new }
-    ensures does { Does ongoing.manner place backlog.now (desk_at ongoing.course bench.old) result.place result.noted (memory_at bench.new.memory) bench.new.events.now bench.old.out.now bench.new.out.now }
+    ensures does { Does ongoing.manner place backlog.now (desk_on ongoing.course bench.old) result.place result.noted (memory_at bench.new.memory) bench.new.events.now bench.old.out.now bench.new.out.now }
 {
     let next = place.next;
     let waiting = place.waiting;
@@ -55,7 +55,7 @@ fn finish_due(ongoing: Ongoing, place: Place, memory: &LentMut, out: &mut [u8]) 
 pub fn run_on(ongoing: Ongoing, place: Place, bench: &mut Bench, backlog: &Backlog) -> Stepped
     requires { place.running ≡ true }
     ensures same { SameBench bench.old bench.new }
-    ensures does { Does ongoing.manner place backlog.now (desk_at ongoing.course bench.old) result.place result.noted (memory_at bench.new.memory) bench.new.events.now bench.old.out.now bench.new.out.now }
+    ensures does { Does ongoing.manner place backlog.now (desk_on ongoing.course bench.old) result.place result.noted (memory_at bench.new.memory) bench.new.events.now bench.old.out.now bench.new.out.now }
 {
     if place.next < place.waiting {
         serve_some(ongoing, place, bench, backlog)

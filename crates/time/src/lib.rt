@@ -17,8 +17,10 @@ pub struct Time(pub u64, pub u64);
 #[derive(Clone, Copy, Debug, PartialEq, Eq, PartialOrd, Ord)]
 pub struct Duration(pub u64, pub u64);
 
-// Microseconds in a second.
+// Microseconds in a second, and one of them in raw units.
 pub const MICROS: u64 = 1_000_000;
+
+pub const MICROSECOND: u64 = 18446744073709;
 
 impl Time {
     // Whether this instant is earlier than another.
@@ -81,7 +83,7 @@ impl Duration {
         ensures { result ≡ micros n }
     {
         let part = n % MICROS;
-        Duration(n / MICROS, part * 18446744073709 + part * 551616 / MICROS)
+        Duration(n / MICROS, part * MICROSECOND + part * 551616 / MICROS)
     }
 
     pub fn is_zero(self) -> bool

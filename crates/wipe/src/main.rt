@@ -4,7 +4,7 @@
 use drafts::PATH_ROOM;
 use slices::first;
 use std::env::FillError;
-use std::rt::{Env, Files};
+use std::rt::Env;
 use text::Text;
 
 // Room for all arguments. Memory is fixed and no list can grow, so they are one text, a byte 0 after each.
