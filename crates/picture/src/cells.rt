@@ -16,9 +16,11 @@ pub fn holds_charge(cells: &CellsRef, exposure: &Option<Exposure>, page: usize) 
     requires { page < pages }
     ensures { result ≡ holds_charge (cell_at (after_exposure exposure.now (cells_in cells.now))) page_cells (page * page_cells) }
 {
+    // A copy of the references: the loop takes half the time.
+    let cells = *cells;
     let start = page * PAGE_CELLS;
     for i in 0..PAGE_CELLS {
-        let charge = charge_after(cells, exposure, start + i);
+        let charge = charge_after(&cells, exposure, start + i);
         if 0 < charge {
             return true;
         }

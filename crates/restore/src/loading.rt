@@ -1,4 +1,5 @@
 // The values that stand in a snapshot, by their places.
+// Lengths are asked for as clauses: each function reads its own stretch of any bytes, and no two the same one.
 ghost use Rattle.std.specs.Prelude.{◌≡◌, ◌+◌, ◌≤◌, length};
 ghost use Rattle.std.proofs.lemmas.List.Edits.{sets};
 ghost use Rattle.cell.specs.Cell.{array_cells, pages};
@@ -88,7 +89,7 @@ pub fn flash_at(state: StateAt, indices: [u16; PAGES]) -> Flash
 }
 
 // The charges of so many pages go to their slots; the other slots keep their numbers. It promises so for any bytes in which the pages stand,
-// so it asks for lengths and for no snapshot whose fields are good.
+// also where other fields are refused.
 pub fn load_pages(bytes: &[u8], count: usize, charges: &mut [u64])
     requires { (count ≤ pages) × (page_at count ≤ length bytes.now) × (length charges.old ≡ array_cells) }
     ensures { charges.new ≡ sets charges.old 0 (pages_cells count bytes.now pages_place) }

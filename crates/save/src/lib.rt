@@ -1,4 +1,5 @@
 // Writing a snapshot.
+// Lengths are asked for as clauses: each function writes its own stretch of any output, and no two the same one.
 #![tactic(auto)]
 
 ghost use Rattle.std.specs.Prelude.{◌≡◌, [], ◌++◌, ℕ, suc, ◌+◌, ◌*◌, ◌<◌, ◌≤◌, length, take};
@@ -54,7 +55,6 @@ fn put_pages(out: &mut [u8], held: &Held, count: usize)
 }
 
 // The runs of fields of the state, each after what stands before it.
-// Output and place stay two parameters: each run asks for its own stretch.
 #[tactic(auto, using(crate::proofs::Runs::rows), unfolding(snapshot::specs::Snapshot::state_fields))]
 fn put_controls(out: &mut [u8], at: usize, flash: Flash)
     requires { at + 5 ≤ length out.old }

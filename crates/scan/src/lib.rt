@@ -62,6 +62,7 @@ fn check_cells(bytes: &[u8], at: usize, count: usize) -> Result<(), Refusal>
     Ok(())
 }
 
+// The index that is filled here and below is an array beside the bytes and no value with facts: it is sound only when it is whole.
 // The address of a charge page: a field that is refused if it is misaligned, past the end or in the index already.
 #[tactic(auto, unfolding(snapshot::specs::Places::address_number))]
 fn check_address(bytes: &[u8], at: usize, indices: &[u16; PAGES]) -> Result<(), Refusal>

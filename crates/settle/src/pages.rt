@@ -12,7 +12,8 @@ use charging::{charge_slot, open_slot};
 use registers::Pulse;
 use time::Duration;
 
-// How many pages are opened, counted as wide as an entry, so that many entries are tested at once.
+// How many pages are opened, counted as wide as an entry, so that many entries are tested at once. The length is asked for as a clause: any
+// index is counted, sound or not.
 pub fn opened(indices: &[u16]) -> usize
     requires { length indices.now ≡ pages }
     ensures { (result ≡ opened indices.now) × (result ≤ pages) }
