@@ -10,7 +10,7 @@ use look::looking::charge_after;
 use settle::cells::CellsRef;
 use settle::exposure::Exposure;
 
-// Whether a cell of a page holds a charge after an exposure. A loop: with `any` a map takes up to twice the time.
+// Whether a cell of a page holds a charge after an exposure. A loop: with `any` a map takes up to three times as long.
 #[tactic(auto, using(crate::proofs::Held::turns))]
 pub fn holds_charge(cells: &CellsRef, exposure: &Option<Exposure>, page: usize) -> bool
     requires { page < pages }
