@@ -1,4 +1,5 @@
 pub mod Answers
+pub mod Blank
 pub mod Fresh
 pub mod Inside
 pub mod Look

@@ -5,19 +5,14 @@ use Prim.Native.Nat.{ℕ, zero, suc, ◌+◌, ◌<◌, ◌≤◌}
 use native.Mathlib.Numerals.{add-one}
 use native.Mathlib.Omega.{arith}
 use lib.ListN.{length, set, take, drop, length-take, length-drop}
-use lib.Seq.{sets, take-suc, take-add, take-length, get_or-drop, drop-cons}
+use lib.Seq.{sets, take-suc, take-add, take-length, get_or-drop}
 use lib.Dec.{eqb}
 use Rattle.std.specs.List.{list_all, range_with_len}
 use Rattle.cell.specs.Cell.{at}
 use Rattle.settle.proofs.Stored.{sets-append}
 use Rattle.flash.specs.Looking.{all_blank}
 
--- ---- n bytes from address a on, as a list of them and as a list of their addresses
-
-pub all-blank-bytes : (n a : ℕ) (image : List ℕ) → a + n ≤ length image → all_blank n a image ≡ list_all (λ b. eqb b 255) (take n (drop a image))
-unfolding all_blank
-all-blank-bytes zero a image h = refl
-all-blank-bytes (suc n) a image h = rw (drop-cons image a 0 (omega arith), all-blank-bytes n (suc a) image (omega arith))
+-- ---- n bytes from address a on, as a list of their addresses
 
 pub all-blank-range : (n a : ℕ) (image : List ℕ) → all_blank n a image ≡ list_all (λ i. eqb (at image i) 255) (range_with_len a n)
 unfolding all_blank

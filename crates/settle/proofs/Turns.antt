@@ -42,12 +42,6 @@ left-same c lent =
       count_is = rw (changes-same 0 c.array);
     }
 
--- an exposure of 0
-pub left-none : (pulse : Pulse) (latch : List ℕ) (l : ℕ) (c : Cells) (lent : List ℕ) → l ≡ 0
-    → Left (expose pulse latch l c) (changes 0 c.array (expose pulse latch l c).array) lent c.index c.array c.charges lent 0
-unfolding expose
-left-none pulse latch l c lent e = rw e (left-same c lent)
-
 -- ---- the next slot after one more page
 
 module _ (c : Cells) (inv : SlotsOf c) (p : ℕ) (h : p < 384) (f : ℕ → ℕ → ℕ) where

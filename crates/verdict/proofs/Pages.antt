@@ -6,7 +6,6 @@ use mathlib.Core.Bool.{Bool, true, false, cond, not}
 use Prim.Native.Nat.{ℕ, zero, suc, ◌+◌, ◌*◌, ◌/◌, ◌≤◌}
 use lib.Dec.{eqb}
 use lib.ListN.{length, take, drop}
-use lib.Seq.{drop-cons}
 use Rattle.std.specs.List.{list_all, filter, range_with_len}
 use native.Mathlib.Nat.{add-zero, zero-add}
 use native.Mathlib.Numerals.{add-one}
@@ -15,7 +14,8 @@ use Rattle.time.specs.declared.Time.{Time}
 use Rattle.control.specs.Blocks.{erase_range, InOrder}
 use Rattle.control.proofs.Tiling.{blocks-in-order}
 use Rattle.flash.specs.Chip.{Chip}
-use Rattle.flash.specs.Looking.{image_at, all_blank, blank_at}
+use Rattle.flash.specs.Looking.{image_at, blank_at}
+use Rattle.flash.proofs.Blank.{all-blank-list}
 use Rattle.verdict.specs.Legible.{legible, legible_in, legible_over}
 
 -- ---- the image at a time
@@ -41,12 +41,6 @@ legible-more image p (suc n) m =
     rw (e, d, r) (omega arith)
 
 -- ---- as lists
-
--- n bytes from address a on
-all-blank-list : (n a : ℕ) (image : List ℕ) → a + n ≤ length image → all_blank n a image ≡ list_all (λ b. eqb b 255) (take n (drop a image))
-unfolding all_blank
-all-blank-list zero a image h = refl
-all-blank-list (suc n) a image h = rw (drop-cons image a 0 (omega arith), all-blank-list n (suc a) image (omega arith))
 
 pub legible-list : (image : List ℕ) (p n : ℕ) → n ≡ 128 → (p * 128) + 128 ≤ length image
     → legible image p ≡ not (list_all (λ b. eqb b 255) (take n (drop (p * 128) image)))

@@ -9,7 +9,7 @@ use borrow.Author.Tests.{tests}
 use Rattle.std.specs.List.{list_all}
 use Rattle.std.proofs.lemmas.Iterator.{YieldsList-from_slice}
 use Rattle.std.proofs.lemmas.Iterator.Search.{all_from_yields_List}
-use Rattle.look.proofs.Stores.{all-blank-bytes}
+use Rattle.flash.proofs.Blank.{all-blank-list}
 use Rattle.look.proofs.imaging.stored_blank.Goals as goal
 
 pub returns : goal.returns
@@ -19,4 +19,4 @@ returns c =
     let page = take (x.start + 128 - x.start) (drop x.start x.array.now) in
     let e : c.all.result ≡ list_all (λ b. eqb b 255) page =
     all_from_yields_List (λ b. eqb b 255) _ _ c.all.result c.all.ensures.ran (YieldsList-from_slice page cc) (λ x b q k. search (rules, tests)) in
-    rw e (rw n (sym (all-blank-bytes 128 x.start x.array.now (omega arith))))
+    rw e (rw n (sym (all-blank-list 128 x.start x.array.now (omega arith))))

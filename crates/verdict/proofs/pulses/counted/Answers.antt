@@ -4,7 +4,7 @@ use mathlib.Core.Path.{sym, ap, ◌∙◌}
 use native.Mathlib.Numerals.{add-one}
 use native.Mathlib.Omega.{arith}
 use borrow.Author.Rules.{rules}
-use lib.ListN.{length, take}
+use lib.ListN.{length}
 use lib.Seq.{take-suc}
 use Rattle.verdict.proofs.Ends.{length-counted, counted_none, counted-more}
 use Rattle.verdict.proofs.pulses.counted.Goals as goal
