@@ -11,24 +11,24 @@ use text::Text;
 pub fn answered(text: &mut Text, line_number: u64, address: u64, value: u64, is_word: bool)
     ensures { Says (answer_said line_number address value is_word) text.old text.new }
 {
-    text.say_either(
-        is_word,
-        b"line %: the word at $ is $\n",
-        b"line %: the read of $ gives &\n",
-        &[line_number, address, value],
-    );
+    let template: &[u8] = if is_word {
+        b"line %: the word at $ is $\n"
+    } else {
+        b"line %: the read of $ gives &\n"
+    };
+    text.say(template, &[line_number, address, value]);
 }
 
 // A look at a byte, and whether its page is blank.
 pub fn looked_byte(text: &mut Text, line_number: u64, address: u64, value: u64, blank: bool)
     ensures { Says (byte_said line_number address value blank) text.old text.new }
 {
-    text.say_either(
-        blank,
-        b"line %: $ reads &, its page is blank\n",
-        b"line %: $ reads &, its page is legible\n",
-        &[line_number, address, value],
-    );
+    let template: &[u8] = if blank {
+        b"line %: $ reads &, its page is blank\n"
+    } else {
+        b"line %: $ reads &, its page is legible\n"
+    };
+    text.say(template, &[line_number, address, value]);
 }
 
 // A look at a cell.
@@ -45,10 +45,10 @@ pub fn looked_cell(text: &mut Text, line_number: u64, address: u64, bit: u64, ch
 pub fn looked_whole(text: &mut Text, line_number: u64, legible: u64)
     ensures { Says (whole_said line_number legible) text.old text.new }
 {
-    text.say_either(
-        legible == 0,
-        b"line %: every page is blank\n",
-        b"line %: % of % pages are legible\n",
-        &[line_number, legible, PAGES as u64],
-    );
+    let template: &[u8] = if legible == 0 {
+        b"line %: every page is blank\n"
+    } else {
+        b"line %: % of % pages are legible\n"
+    };
+    text.say(template, &[line_number, legible, PAGES as u64]);
 }

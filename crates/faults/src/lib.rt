@@ -33,5 +33,10 @@ pub fn fault(
 {
     text.say(b"line %, column %: ", &[line_number, column]);
     sentence(text, word, reason);
-    text.say_either(goes_on, b"; the line is left out\n", b"\n", &[]);
+    let ending: &[u8] = if goes_on {
+        b"; the line is left out\n"
+    } else {
+        b"\n"
+    };
+    text.say(ending, &[]);
 }

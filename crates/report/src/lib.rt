@@ -46,12 +46,12 @@ pub fn legible_page(text: &mut Text, address: u64)
 pub fn verdict(text: &mut Text, legible: u64)
     ensures { Says (verdict_line legible) text.old text.new }
 {
-    text.say_either(
-        legible == 0,
-        b"verdict: blank\n",
-        b"verdict: legible, % pages\n",
-        &[legible],
-    );
+    let template: &[u8] = if legible == 0 {
+        b"verdict: blank\n"
+    } else {
+        b"verdict: legible, % pages\n"
+    };
+    text.say(template, &[legible]);
 }
 
 pub fn picture_head(text: &mut Text)

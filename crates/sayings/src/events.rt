@@ -19,12 +19,12 @@ fn last_address(word: u64) -> u64
 fn ended(text: &mut Text, word: u64)
     ensures { Says (end_said word) text.old text.new }
 {
-    text.say_either(
-        kind_in(word) == u64::from(EventKind::Completed),
-        b": the pulse over $ to $ is completed\n",
-        b": the pulse over $ to $ is interrupted\n",
-        &[address_in(word), last_address(word)],
-    );
+    let template: &[u8] = if kind_in(word) == u64::from(EventKind::Completed) {
+        b": the pulse over $ to $ is completed\n"
+    } else {
+        b": the pulse over $ to $ is interrupted\n"
+    };
+    text.say(template, &[address_in(word), last_address(word)]);
 }
 
 fn put_happened(text: &mut Text, word: u64)

@@ -3,7 +3,7 @@
 // it also wants text, and a word of a history may be any bytes.
 #![tactic(auto)]
 
-ghost use Rattle.std.specs.Prelude.{◌≡◌, cond, [], get_or, take};
+ghost use Rattle.std.specs.Prelude.{◌≡◌, [], get_or, take};
 ghost use Rattle.text.specs.Text.{filled};
 ghost use Rattle.text.specs.Says.{Says};
 
@@ -79,13 +79,5 @@ impl Text<'_> {
         ensures { Says (filled template.now word.now []) self.old self.new }
     {
         self.fill(template, word, &[]);
-    }
-
-    // The same with one of two templates.
-    pub fn say_either(&mut self, first: bool, one: &[u8], other: &[u8], numbers: &[u64])
-        ensures { Says (filled (cond first one.now other.now) [] numbers.now) self.old self.new }
-    {
-        let template = if first { one } else { other };
-        self.say(template, numbers);
     }
 }
