@@ -1,4 +1,4 @@
-// An event in words.
+// An event in words. A word's kind is compared as a number, as in the definitions: it may be none of the kinds.
 ghost use Rattle.std.specs.Prelude.{◌≡◌};
 ghost use Rattle.text.specs.Says.{Says};
 ghost use Rattle.sayings.specs.Sayings.{last_address, end_said, happened, event_said};

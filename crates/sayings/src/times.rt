@@ -4,15 +4,15 @@ ghost use Rattle.text.specs.Says.{Says};
 ghost use Rattle.std.specs.Prelude.{◌≡◌};
 ghost use Rattle.sayings.specs.Sayings.{microsecond_in, fraction_said, instant_said};
 
-use moments::{MICROSECOND, micros_of};
+use moments::micros_of;
 use text::Text;
-use time::Time;
+use time::{MICROS, MICROSECOND, Time};
 
 // The microsecond of a second in which a fraction lies.
 fn microsecond_in(fraction: u64) -> u64
     ensures { result ≡ microsecond_in fraction }
 {
-    (fraction / MICROSECOND).min(999999)
+    (fraction / MICROSECOND).min(MICROS - 1)
 }
 
 fn put_fraction(text: &mut Text, time: Time)
