@@ -2,8 +2,9 @@
 -- Assumes nothing.
 use mathlib.Core.Path.{◌≡◌, refl, sym, ap, ◌∙◌}
 use mathlib.Core.Bool.{cond}
+use Rattle.std.specs.Prelude.{None, Some}
 use mathlib.Core.List.{List, [], ◌∷◌, ◌++◌}
-use Prim.Native.Nat.{ℕ, suc, ◌+◌, ◌/◌, ◌^◌, ◌<◌, ◌≤◌}
+use Prim.Native.Nat.{ℕ, suc, ◌+◌, ◌/◌, ◌^◌, ◌<◌}
 use native.Mathlib.Nat.{zero-add}
 use native.Mathlib.Omega.{arith}
 use borrow.Author.Tests.{eq-eqb, ne_eqb}
@@ -71,17 +72,17 @@ unfolding ends_there
 other-kind kind w counts n = by_place kind w counts counts refl (λ b h. rw (ne_eqb _ _ n) (omega arith))
 
 module _ (kind w : ℕ) (counts : List ℕ) (same : kind_in w ≡ kind) where
-  pub no_block : length counts ≤ block_of (address_in w / 128) → counts ≡ counted kind (w ∷ []) counts
+  pub no_block : block_of (address_in w / 128) ≡ None → counts ≡ counted kind (w ∷ []) counts
   unfolding ends_there
-  no_block past = by_place kind w counts counts refl (λ b h. rw (eq-eqb _ _ same, ne_eqb (block_of (address_in w / 128)) b (λ e. omega (arith, e))) (omega arith))
+  no_block none = by_place kind w counts counts refl (λ b h. rw (eq-eqb _ _ same, none) (omega arith))
 
-  pub in_block : (b v : ℕ) → b ≡ block_of (address_in w / 128) → b < length counts → v ≡ raised (at counts b) 1
+  pub in_block : (b v : ℕ) → block_of (address_in w / 128) ≡ Some b → b < length counts → v ≡ raised (at counts b) 1
       → set counts b v ≡ counted kind (w ∷ []) counts
   unfolding ends_there
   in_block b v here inside e = by_place kind w counts (set counts b v) (length-set counts b v) (λ k h. each k (ℕ_discrete k b))
     where
       each : (k : ℕ) → Dec (k ≡ b) → at (set counts b v) k ≡ raised (at counts k) (cond (ends_there kind k w) 1 0)
-      each k (yes q) = rw (q, get_or-set_same counts b v 0 inside, eq-eqb _ _ same, eq-eqb _ b (sym here)) e
-      each k (no d) = rw (get_or-set_other counts b k v 0 d, eq-eqb _ _ same, ne_eqb _ k (λ q. d (sym (here ∙ q)))) (omega arith)
+      each k (yes q) = rw (q, get_or-set_same counts b v 0 inside, eq-eqb _ _ same, here, eq-eqb b b refl) e
+      each k (no d) = rw (get_or-set_other counts b k v 0 d, eq-eqb _ _ same, here, ne_eqb b k (λ q. d (sym q))) (omega arith)
 
 pub ruleset one_word = (other-kind, in_block, no_block)

@@ -4,14 +4,13 @@ use mathlib.Core.Path.{◌≡◌, refl, sym, ap, ◌∙◌}
 use mathlib.Core.Bool.{Bool, true, false, cond, ◌&&◌, true≢false}
 use mathlib.Core.List.{List, [], ◌∷◌}
 use Prim.Native.Nat.{ℕ, zero, suc, ◌+◌, ◌-◌, ◌*◌, ◌/◌, ◌^◌, ◌<◌, ◌≤◌}
-use native.Mathlib.Nat.{add-zero}
 use native.Mathlib.Numerals.{add-one}
 use native.Mathlib.Omega.{arith}
 use native.Mathlib.Decide.{ℕ_discrete, dec_lt}
 use borrow.Author.Tests.{ltb-true, ltb-false, leb-true, lt-ltb, le-ltb, le-leb}
 use lib.Dec.{leb, ltb}
-use Rattle.std.specs.Prelude.{Option, None, Some}
-use Rattle.std.specs.Option.{unwrap_or, option_map}
+use Rattle.std.specs.Prelude.{Option, None, Some, IfSome}
+use Rattle.std.specs.Option.{option_map}
 use Rattle.std.specs.List.{find, range_with_len}
 use Rattle.control.specs.declared.Range.{Range}
 use Rattle.control.specs.Blocks.{erase_range, InOrder}
@@ -39,22 +38,17 @@ from-range r p e = by (leb r.first p) (ltb p (r.first + r.pages)) refl refl e
 
 -- what a search of the blocks in turn gives
 pub block-first : (p : ℕ) (r : Option ℕ) → option_map (λ x. x) r ≡ find (λ b. in_range (block_range b) p) (range_with_len 0 6)
-    → unwrap_or r 6 ≡ block_of p
+    → r ≡ block_of p
 unfolding block_of block_from
-block-first p r e = same r ∙ ap (λ (o : Option ℕ). unwrap_or o 6) e ∙ go 6 0
+block-first p r e = same r ∙ e ∙ go 6 0
   where
-    same : (r : Option ℕ) → unwrap_or r 6 ≡ unwrap_or (option_map (λ x. x) r) 6
+    same : (r : Option ℕ) → r ≡ option_map (λ x. x) r
     same None = refl
     same (Some x) = refl
 
-    go : (n b : ℕ) → unwrap_or (find (λ b. in_range (block_range b) p) (range_with_len b n)) (b + n) ≡ block_from n b p
-    go zero b = add-zero b
-    go (suc n) b = by (go n (suc b)) (in_range (block_range b) p)
-      where
-        by : unwrap_or (find (λ b. in_range (block_range b) p) (range_with_len (suc b) n)) (suc b + n) ≡ block_from n (suc b) p → (t : Bool)
-            → unwrap_or (cond t (Some b) (find (λ b. in_range (block_range b) p) (range_with_len (b + 1) n))) (b + suc n) ≡ cond t b (block_from n (suc b) p)
-        by later true = refl
-        by later false = let e : b + suc n ≡ suc b + n = omega arith in rw (e, add-one) later
+    go : (n b : ℕ) → find (λ b. in_range (block_range b) p) (range_with_len b n) ≡ block_from n b p
+    go zero b = refl
+    go (suc n) b = rw (add-one, go n (suc b))
 
 -- a block has pages, and they lie in the array
 pub block_inside : (b : ℕ) → b < 6 → (1 ≤ (block_range b).pages) × ((block_range b).first + (block_range b).pages ≤ 384)
@@ -72,29 +66,43 @@ values : ℕ → ℕ → List ℕ
 values zero b = []
 values (suc n) b = 2 ^ b ∷ values n (suc b)
 
--- Where n blocks from block b on stand one after the other from page q to the end, a page from q on lies in the one that is told.
+-- Where n blocks from block b on stand one after the other from page q to the end, one is told for a page from q on, and has it.
 block-found : (n b q p : ℕ) → InOrder q (values n b) → q ≤ p → p < 384
-    → (block_from n b p < b + n) × (in_range (block_range (block_from n b p)) p ≡ true)
+    → (x : ℕ) × (block_from n b p ≡ Some x) × (x < b + n) × (in_range (block_range x) p ≡ true)
 unfolding InOrder values block_from
 block-found zero b q p e low high = absurd (omega (arith, e))
 block-found (suc n) b q p (first, rest) low high =
     by (λ l. block-found n (suc b) (q + (block_range b).pages) p rest l high) (in_range (block_range b) p) refl
   where
-    Found : ℕ → Type 0
-    Found x = (x < b + suc n) × (in_range (block_range x) p ≡ true)
+    Found : Option ℕ → ℕ → Type 0
+    Found told past = (x : ℕ) × (told ≡ Some x) × (x < past) × (in_range (block_range x) p ≡ true)
 
-    by : (q + (block_range b).pages ≤ p → (block_from n (suc b) p < suc b + n) × (in_range (block_range (block_from n (suc b) p)) p ≡ true))
-        → (t : Bool) → in_range (block_range b) p ≡ t → Found (cond t b (block_from n (suc b) p))
-    by later true e = (omega arith, e)
+    by : (q + (block_range b).pages ≤ p → Found (block_from n (suc b) p) (suc b + n))
+        → (t : Bool) → in_range (block_range b) p ≡ t → Found (cond t (Some b) (block_from n (suc b) p)) (b + suc n)
+    by later true e = (b, refl, omega arith, e)
     by later false e =
         let l = ltb-false p _ (rw (le-leb (block_range b).first p (omega arith)) at e) in
-        let r = later (omega arith) in
-        (omega arith, r.1)
+        let (x, told, small, has) = later (omega arith) in
+        (x, told, omega arith, has)
 
 -- A page of the array lies in the block that is told.
-pub page-in-block : (p : ℕ) → p < 384 → (block_of p < 6) × (in_range (block_range (block_of p)) p ≡ true)
+pub page-in-block : (p : ℕ) → p < 384 → (b : ℕ) × (block_of p ≡ Some b) × (b < 6) × (in_range (block_range b) p ≡ true)
 unfolding block_of values
 page-in-block p h = block-found 6 0 0 p blocks-in-order (omega arith) h
+
+-- A block that is told is one of those that are tried.
+told-small : (n b p : ℕ) → IfSome (block_from n b p) (λ x. x < b + n)
+unfolding block_from
+told-small zero b p = tt
+told-small (suc n) b p = by (told-small n (suc b) p) (in_range (block_range b) p)
+  where
+    by : IfSome (block_from n (suc b) p) (λ x. x < suc b + n) → (t : Bool) → IfSome (cond t (Some b) (block_from n (suc b) p)) (λ x. x < b + suc n)
+    by later true = omega arith
+    by later false = let e : b + suc n ≡ suc b + n = omega arith in rw e later
+
+pub block_small : (p : ℕ) → IfSome (block_of p) (λ x. x < 6)
+unfolding block_of
+block_small p = told-small 6 0 p
 
 -- Such blocks start at q or later.
 starts-later : (n b q c : ℕ) → InOrder q (values n b) → b ≤ c → c < b + n → q ≤ (block_range c).first
@@ -107,21 +115,21 @@ starts-later (suc n) b q c (first, rest) low high = by (λ l. starts-later n (su
     by later (no d) = omega (arith, later (omega arith))
 
 -- A page of one of them lies in no block before it, so that one is told.
-block-only : (n b q p c : ℕ) → InOrder q (values n b) → b ≤ c → c < b + n → in_range (block_range c) p ≡ true → block_from n b p ≡ c
+block-only : (n b q p c : ℕ) → InOrder q (values n b) → b ≤ c → c < b + n → in_range (block_range c) p ≡ true → block_from n b p ≡ Some c
 unfolding InOrder values block_from
 block-only zero b q p c o low high e = absurd (omega arith)
 block-only (suc n) b q p c (first, rest) low high e =
     by (λ l. block-only n (suc b) (q + (block_range b).pages) p c rest l (omega arith) e) (ℕ_discrete c b)
   where
-    by : (suc b ≤ c → block_from n (suc b) p ≡ c) → Dec (c ≡ b) → cond (in_range (block_range b) p) b (block_from n (suc b) p) ≡ c
-    by later (yes d) = rw (rw d at e) (sym d)
+    by : (suc b ≤ c → block_from n (suc b) p ≡ Some c) → Dec (c ≡ b) → cond (in_range (block_range b) p) (Some b) (block_from n (suc b) p) ≡ Some c
+    by later (yes d) = rw (rw d at e) (ap Some (sym d))
     by later (no d) =
         let s = starts-later n (suc b) (q + (block_range b).pages) c rest (omega arith) (omega arith) in
         let r = from-range (block_range c) p e in
         rw (past-range (block_range b) p (omega arith)) (later (omega arith))
 
 -- A page lies in no block but the one that is told.
-pub block-of-page : (b p : ℕ) → b < 6 → in_range (block_range b) p ≡ true → block_of p ≡ b
+pub block-of-page : (b p : ℕ) → b < 6 → in_range (block_range b) p ≡ true → block_of p ≡ Some b
 unfolding block_of values
 block-of-page b p h e = block-only 6 0 0 p b blocks-in-order (omega arith) (omega arith) e
 

@@ -1,11 +1,11 @@
 -- Blocks as ranges of pages, the block of a page, and the pages of a stretch of addresses. Document 01, "Pulses and settling".
 -- Assumes nothing.
-use Rattle.std.specs.Prelude.{ℕ, zero, suc, ◌+◌, ◌-◌, ◌/◌, ◌^◌, Bool, cond, ◌&&◌, leb, ltb}
+use Rattle.std.specs.Prelude.{ℕ, zero, suc, ◌+◌, ◌-◌, ◌/◌, ◌^◌, Bool, cond, ◌&&◌, Option, None, Some, leb, ltb}
 use Rattle.cell.specs.Cell.{page_bytes}
 use Rattle.control.specs.Blocks.{erase_range}
 use Rattle.control.specs.declared.Range.{Range}
 
--- There are blocks 0 to 5; where a block is told, 6 says none.
+-- There are blocks 0 to 5.
 abbrev pub blocks : ℕ
 blocks = 6
 
@@ -17,13 +17,13 @@ block_range b = erase_range (2 ^ b)
 abbrev pub in_range : Range → ℕ → Bool
 in_range r p = leb r.first p && ltb p (r.first + r.pages)
 
--- the first of n blocks from block b on that page p lies in, or else the number past them
-unfoldable pub block_from : ℕ → ℕ → ℕ → ℕ
-block_from zero b p = b
-block_from (suc n) b p = cond (in_range (block_range b) p) b (block_from n (suc b) p)
+-- the first of n blocks from block b on that page p lies in, if one has it
+unfoldable pub block_from : ℕ → ℕ → ℕ → Option ℕ
+block_from zero b p = None
+block_from (suc n) b p = cond (in_range (block_range b) p) (Some b) (block_from n (suc b) p)
 
--- the block of page p, 6 for a page past the array
-unfoldable pub block_of : ℕ → ℕ
+-- the block of page p, none for a page past the array
+unfoldable pub block_of : ℕ → Option ℕ
 block_of p = block_from blocks 0 p
 
 -- the pages in which the addresses from one to another lie, both included

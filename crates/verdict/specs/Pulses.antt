@@ -1,6 +1,6 @@
 -- Pulses by block: how many end events of each kind have their first address in it. Document 01, under "Order of checking": kinds 2
 -- completed, 3 interrupted. Assumes nothing.
-use Rattle.std.specs.Prelude.{ℕ, ◌+◌, ◌-◌, ◌/◌, ◌^◌, min, Bool, cond, ◌&&◌, List, [], ◌∷◌, eqb}
+use Rattle.std.specs.Prelude.{ℕ, ◌+◌, ◌-◌, ◌/◌, ◌^◌, min, Bool, false, cond, ◌&&◌, List, [], ◌∷◌, Option, None, Some, eqb}
 use Rattle.cell.specs.Cell.{page_bytes, mapi}
 use Rattle.registers.specs.declared.Ending.TheVariants.{Completed, Interrupted}
 use Rattle.registers.specs.Calls.{ending_number}
@@ -8,9 +8,14 @@ use Rattle.ledger.specs.Words.{kind_in, address_in}
 use Rattle.verdict.specs.declared.Tally.{Tally}
 use Rattle.verdict.specs.Blocks.{block_of}
 
+-- whether it is block b that is told
+abbrev pub is_block : Option ℕ → ℕ → Bool
+is_block None b = false
+is_block (Some c) b = eqb c b
+
 -- whether a word is of a kind and its address lies in block b
 unfoldable pub ends_there : ℕ → ℕ → ℕ → Bool
-ends_there kind b w = eqb (kind_in w) kind && eqb (block_of (address_in w / page_bytes)) b
+ends_there kind b w = eqb (kind_in w) kind && is_block (block_of (address_in w / page_bytes)) b
 
 -- how many of some words are of a kind and have their address in block b
 unfoldable pub end_count : ℕ → ℕ → List ℕ → ℕ

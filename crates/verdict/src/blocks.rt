@@ -27,13 +27,11 @@ pub fn in_range(range: Range, page: usize) -> bool
     (first..first + usize::from(range.pages)).contains(&page)
 }
 
-// The block that a page lies in, 6 for a page past the array.
-pub fn block_of(page: usize) -> usize
+// The block that a page lies in, none for a page past the array.
+pub fn block_of(page: usize) -> Option<usize>
     ensures { result ≡ block_of page }
 {
-    (0..BLOCKS)
-        .find(|block| in_range(block_range(*block), page))
-        .unwrap_or(BLOCKS)
+    (0..BLOCKS).find(|block| in_range(block_range(*block), page))
 }
 
 // The pages in which the addresses from one to another lie, both included.

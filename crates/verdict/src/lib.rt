@@ -1,4 +1,4 @@
-// What the desk counts: legible pages of an image, by block, and pulses that ended in each block.
+// What the desk counts: legible pages of an image, by block, pulses that ended in each block, calls made and refused, and lines left out.
 #![tactic(auto)]
 
 use crate::blocks::BLOCKS;

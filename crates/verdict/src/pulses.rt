@@ -1,9 +1,9 @@
 // Pulses by block, counted from event words.
-ghost use Rattle.std.specs.Prelude.{◌≡◌, ◌/◌, [], ◌∷◌};
+ghost use Rattle.std.specs.Prelude.{◌≡◌, ◌<◌, ◌/◌, [], ◌∷◌, IfSome};
 ghost use Rattle.cell.specs.Cell.{page_bytes};
 ghost use Rattle.settling.specs.Kinds.{kind_number};
 ghost use Rattle.ledger.specs.Words.{address_in};
-ghost use Rattle.verdict.specs.Blocks.{block_of};
+ghost use Rattle.verdict.specs.Blocks.{blocks, block_of};
 ghost use Rattle.verdict.specs.Pulses.{counted, tallied};
 
 use crate::Tally;
@@ -13,20 +13,22 @@ use ledger::event_word::{address_in, kind_in};
 use settling::EventKind;
 
 // The block in which the address of a word lies.
-fn word_block(word: u64) -> usize
-    ensures { result ≡ block_of (address_in word / page_bytes) }
+#[tactic(auto, using(crate::proofs::Places::block_small))]
+fn word_block(word: u64) -> Option<usize>
+    ensures told { result ≡ block_of (address_in word / page_bytes) }
+    ensures inside { IfSome result (λ block. block < blocks) }
 {
     block_of(address_in(word) as usize / PAGE)
 }
 
-// One word is counted, if it is of the kind and its address lies in a block.
+// One word is counted, if it is of the kind and its address lies in a block. Kinds are compared as numbers, as in the definitions: a word's
+// may be none of them.
 #[tactic(auto, using(crate::proofs::Ends::one_word))]
 fn count_word(counts: &mut [u64; BLOCKS], kind: EventKind, word: u64)
     ensures { counts.new ≡ counted (kind_number kind) (word ∷ []) counts.old }
 {
     if kind_in(word) == u64::from(kind) {
-        let block = word_block(word);
-        if block < BLOCKS {
+        if let Some(block) = word_block(word) {
             counts[block] = counts[block].saturating_add(1);
         }
     }

@@ -1,6 +1,6 @@
 -- `verdict::blocks::block_of` meets its contract: the first block that has the page.
 -- Assumes nothing.
-use mathlib.Core.Path.{◌≡◌, ◌∙◌, refl}
+use mathlib.Core.Path.{◌≡◌, refl}
 use borrow.Author.Rules.{rules}
 use borrow.Author.Tests.{tests}
 use Rattle.std.specs.List.{find, range_with_len}
@@ -16,4 +16,4 @@ returns c =
     let page = c.args.page in
     let e : option_map (λ x. x) c.find.result ≡ find (λ b. in_range (block_range b) page) (range_with_len 0 6) =
     find_from_yields_List (λ b. in_range (block_range b) page) _ _ c.find.result c.find.ensures.ran (YieldsList-from_range 0 6 6 refl refl) (λ x b q k. search (rules, tests)) in
-    c.unwrap_or.ensures ∙ block-first page c.find.result e
+    block-first page c.find.result e
