@@ -1,7 +1,6 @@
--- Laws on lines that are put one after the other, on pages that lie in the flash, and on what looks show, each in its own file.
+-- Laws on lines that are put one after the other, and on what looks show, each in its own file.
 -- Assumes nothing.
 pub mod Lines
-pub mod Inside
 pub mod Shown
 pub mod Fits
 mod Worked
