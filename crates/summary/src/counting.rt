@@ -4,6 +4,7 @@ ghost use Rattle.text.specs.Says.{Says};
 ghost use Rattle.verdict.specs.Blocks.{blocks};
 ghost use Rattle.summary.specs.Summary.{lines, left_out_line, pulses_in, counts_text};
 
+use crate::series::put_lines;
 use report::{calls, pulses};
 use text::Text;
 use verdict::blocks::BLOCKS;
@@ -33,9 +34,9 @@ fn put_pulses_in(text: &mut Text, tally: Tally, block: usize)
 fn put_pulses(text: &mut Text, tally: Tally)
     ensures { Says (lines (pulses_in tally) 0 blocks) text.old text.new }
 {
-    for block in 0..BLOCKS {
-        put_pulses_in(text, tally, block);
-    }
+    put_lines(text, BLOCKS, |text, block| {
+        put_pulses_in(text, tally, block)
+    });
 }
 
 pub fn put_counts(text: &mut Text, counts: Counts)

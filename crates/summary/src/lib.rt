@@ -28,6 +28,7 @@ pub mod counting;
 pub mod judging;
 pub mod mapping;
 pub mod paging;
+mod series;
 
 // The pages that the verdict is on: so many from a first one on. No `control::Range`, whose 16 bits would ask more of a caller: the report
 // takes any numbers.

@@ -3,6 +3,7 @@ ghost use Rattle.std.specs.Prelude.{◌<◌};
 ghost use Rattle.text.specs.Says.{Says};
 ghost use Rattle.summary.specs.Summary.{lines, map_rows, map_row, map_text};
 
+use crate::series::put_lines;
 use cell::{PAGE, PAGES};
 use text::Text;
 
@@ -22,9 +23,7 @@ fn put_row(text: &mut Text, marks: &[u8; PAGES], row: usize)
 fn put_rows(text: &mut Text, marks: &[u8; PAGES])
     ensures { Says (lines (map_row marks.now) 0 map_rows) text.old text.new }
 {
-    for row in 0..ROWS {
-        put_row(text, marks, row);
-    }
+    put_lines(text, ROWS, |text, row| put_row(text, marks, row));
 }
 
 // The map, if it is asked for.

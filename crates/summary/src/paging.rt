@@ -5,6 +5,7 @@ ghost use Rattle.cell.specs.Cell.{pages as Cell·pages};
 ghost use Rattle.verdict.specs.Blocks.{blocks};
 ghost use Rattle.summary.specs.Summary.{lines, pages_in, page_legible, pages_text};
 
+use crate::series::put_lines;
 use cell::{FLASH_SIZE, PAGE, PAGES};
 use report::{legible_page, pages};
 use text::Text;
@@ -34,9 +35,9 @@ fn put_pages_in(text: &mut Text, image: &[u8; FLASH_SIZE], block: usize)
 fn put_blocks(text: &mut Text, image: &[u8; FLASH_SIZE])
     ensures { Says (lines (pages_in image.now) 0 blocks) text.old text.new }
 {
-    for block in 0..BLOCKS {
-        put_pages_in(text, image, block);
-    }
+    put_lines(text, BLOCKS, |text, block| {
+        put_pages_in(text, image, block)
+    });
 }
 
 fn put_if_legible(text: &mut Text, image: &[u8; FLASH_SIZE], page: usize)
@@ -51,9 +52,9 @@ fn put_if_legible(text: &mut Text, image: &[u8; FLASH_SIZE], page: usize)
 fn put_legible(text: &mut Text, image: &[u8; FLASH_SIZE])
     ensures { Says (lines (page_legible image.now) 0 Cell·pages) text.old text.new }
 {
-    for page in 0..PAGES {
-        put_if_legible(text, image, page);
-    }
+    put_lines(text, PAGES, |text, page| {
+        put_if_legible(text, image, page)
+    });
 }
 
 pub fn put_pages(text: &mut Text, image: &[u8; FLASH_SIZE])

@@ -1,11 +1,8 @@
--- `summary::mapping::put_rows` meets its contract. The loop's invariant: the lines of the rows passed are put.
+-- `summary::mapping::put_rows` meets its contract: each call puts the line of its row.
 -- Assumes nothing.
 use borrow.Author.Rules.{rules}
-use Rattle.summary.proofs.Lines.{no-lines, one-line-more}
+use Rattle.summary.specs.Summary.{map_row}
 use Rattle.summary.proofs.mapping.put_rows.Goals as goal
 
-pub loop-row-init : goal.loop-row-init
-loop-row-init c = search (rules, no-lines)
-
-pub loop-row-preserved : goal.loop-row-preserved
-loop-row-preserved c = search (rules, one-line-more)
+pub returns : goal.returns
+returns c = c.put_lines.ensures (map_row c.args.marks.now) (λ k h t left put. search rules)

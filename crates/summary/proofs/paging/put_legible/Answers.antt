@@ -1,11 +1,8 @@
--- `summary::paging::put_legible` meets its contract. The loop's invariant: the lines of the pages passed are put.
+-- `summary::paging::put_legible` meets its contract: each call puts the line of its page.
 -- Assumes nothing.
 use borrow.Author.Rules.{rules}
-use Rattle.summary.proofs.Lines.{no-lines, one-line-more}
+use Rattle.summary.specs.Summary.{page_legible}
 use Rattle.summary.proofs.paging.put_legible.Goals as goal
 
-pub loop-page-init : goal.loop-page-init
-loop-page-init c = search (rules, no-lines)
-
-pub loop-page-preserved : goal.loop-page-preserved
-loop-page-preserved c = search (rules, one-line-more)
+pub returns : goal.returns
+returns c = c.put_lines.ensures (page_legible c.args.image.now) (λ k h t left put. search rules)
