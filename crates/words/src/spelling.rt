@@ -6,10 +6,10 @@ ghost use Rattle.words.specs.Text.{spells, named};
 
 // Whether a word spells a name that is written in capitals. `eq_ignore_ascii_case` would also take a name in small letters.
 #[tactic(auto, using(crate::proofs::Spelled::other_length))]
-pub fn spells(word: &[u8], name: &str) -> bool
+pub fn spells(word: &[u8], name: &[u8]) -> bool
     ensures { result ≡ spells name.now word.now }
 {
-    word.len() == name.len() && beside(word, name.as_bytes())
+    word.len() == name.len() && beside(word, name)
 }
 
 // Whether each byte in capitals is the name's at its place.
@@ -26,7 +26,7 @@ pub fn named<A: Copy>(word: &[u8], table: &[(&str, A)]) -> Option<A>
     ensures { result ≡ named (map (λ e. (e.0.now, e.1)) table.now) word.now }
 {
     for (name, meaning) in table {
-        if spells(word, name) {
+        if spells(word, name.as_bytes()) {
             return Some(*meaning);
         }
     }

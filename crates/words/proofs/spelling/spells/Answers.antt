@@ -4,4 +4,4 @@ use Rattle.words.proofs.Spelled.{beside}
 use Rattle.words.proofs.spelling.spells.Goals as goal
 
 pub returns-then-word-name : goal.returns-then-word-name
-returns-then-word-name c = rw (c.beside.ensures, c.as_bytes.ensures.value) (beside c.args.name.now c.args.word.now (omega arith))
+returns-then-word-name c = rw c.beside.ensures (beside c.args.name.now c.args.word.now (omega arith))
