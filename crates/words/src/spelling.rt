@@ -25,10 +25,8 @@ fn beside(word: &[u8], name: &[u8]) -> bool
 pub fn named<A: Copy>(word: &[u8], table: &[(&str, A)]) -> Option<A>
     ensures { result ≡ named (map (λ e. (e.0.now, e.1)) table.now) word.now }
 {
-    for (name, meaning) in table {
-        if spells(word, name.as_bytes()) {
-            return Some(*meaning);
-        }
-    }
-    None
+    table
+        .iter()
+        .find(|(name, _)| spells(word, name.as_bytes()))
+        .map(|(_, meaning)| *meaning)
 }
