@@ -35,7 +35,7 @@ abbrev pub newline : ℕ
 newline = 10
 
 abbrev pub too_long : Fault
-too_long = record { reason = TooLong; from = 0; to = 0 }
+too_long = record { reason = TooLong; place = record { from = 0; to = 0 } }
 
 -- a line that is too long is not read
 abbrev pub parsed : Reader → Line

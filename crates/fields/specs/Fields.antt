@@ -23,7 +23,7 @@ abbrev pub missing : Word → Bool
 missing w = eqb w.from w.to
 
 abbrev pub fault_at : Reason → Word → Fault
-fault_at why w = record { reason = why; from = w.from; to = w.to }
+fault_at why w = record { reason = why; place = w }
 
 -- a number, or a fault for the reason
 abbrev pub number_of : Reason → Word → Result ℕ NoNumber → Result ℕ Fault

@@ -15,8 +15,7 @@ use words::{LineWord, Word};
 #[derive(Clone, Copy, Debug, PartialEq, Eq)]
 pub struct Fault {
     pub reason: Reason,
-    pub from: usize,
-    pub to: usize,
+    pub place: Word,
 }
 
 impl Fault {
@@ -24,11 +23,7 @@ impl Fault {
     pub fn at(reason: Reason, w: Word) -> Fault
         ensures { result ≡ fault_at reason w }
     {
-        Fault {
-            reason,
-            from: w.from,
-            to: w.to,
-        }
+        Fault { reason, place: w }
     }
 }
 

@@ -22,7 +22,7 @@ is s = line_of (Some (moment 0 (2 ^ 63))) (text s)
 
 -- a fault in the columns from a first up to, not including, a last, counted from 0
 abbrev pub wrong : Reason → ℕ → ℕ → Line
-wrong why first last = Wrong (record { reason = why; from = first; to = last })
+wrong why first last = Wrong (record { reason = why; place = record { from = first; to = last } })
 
 pub record Worked : Type 0 where
   -- names of bits, joined; a letter alone is a bit, and a number has two digits

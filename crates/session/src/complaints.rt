@@ -3,6 +3,7 @@ use course::{Complaint, Noted};
 use slices::{first, part};
 use telling::Outlets;
 use telling::saying::{say_fault, say_look_refused, say_refusal};
+use words::Word;
 
 // A complaint about a line quotes it.
 fn complain<S: Print>(says: &S, go_on: bool, line: &[u8], complaint: Complaint) {
@@ -10,8 +11,9 @@ fn complain<S: Print>(says: &S, go_on: bool, line: &[u8], complaint: Complaint) 
         Complaint::Refused(number, refusal) => say_refusal(says, number, refusal),
         Complaint::Unseen(number, refusal) => say_look_refused(says, number, refusal),
         Complaint::Wrong(number, fault) => {
-            let word = part(line, fault.from, fault.to);
-            say_fault(says, number, fault.from, word, fault.reason, go_on)
+            let Word { from, to } = fault.place;
+            let word = part(line, from, to);
+            say_fault(says, number, from, word, fault.reason, go_on)
         }
     }
 }

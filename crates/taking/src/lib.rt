@@ -12,6 +12,7 @@ use grammar::Line;
 use history::take;
 use reason::Reason;
 use time::Time;
+use words::Word;
 
 // A look and a fault are done after the calls that wait, so that all is told in its order.
 fn is_due(line: Line) -> bool
@@ -60,8 +61,7 @@ pub fn take_line(place: Place, backlog: &mut Backlog) -> Place
     if place.line.long {
         let wrong = Line::Wrong(Fault {
             reason: Reason::TooLong,
-            from: 0,
-            to: 0,
+            place: Word { from: 0, to: 0 },
         });
         return place_after(place, before, lines, waiting, wrong);
     }
