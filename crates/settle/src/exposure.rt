@@ -16,7 +16,7 @@ pub struct Exposure<'a> {
 }
 
 impl Exposure<'_> {
-    ghost use Rattle.std.specs.Prelude.{◌≡◌, Some, IfSome};
+    ghost use Rattle.std.specs.Prelude.{◌≡◌, Some, IfSome, MatchOption};
     ghost use Rattle.settle.specs.Pages.{Cells};
     ghost use Rattle.settle.specs.Settling.{covers, expose, settled_by};
     ghost use Rattle.settle.specs.Views.{after_exposure};
@@ -28,8 +28,8 @@ impl Exposure<'_> {
         latch: &'a [u8; PAGE],
         length: Duration,
     ) -> Option<Exposure<'a>>
+        ensures is { MatchOption result (span length ≡ 0) (λ e. (e.pulse ≡ pulse) × (e.latch.now ≡ latch.now) × (e.length ≡ length)) }
         ensures leaves { (c : Cells) → expose pulse latch.now (span length) c ≡ after_exposure result c }
-        ensures same_pulse { IfSome result (λ exposure. exposure.pulse ≡ pulse) }
     {
         if length.is_zero() {
             return None;

@@ -1,12 +1,10 @@
 // Pages and slots: where a cell's charge stands, and which slot a page takes.
-ghost use Rattle.std.specs.Prelude.{◌≡◌, ◌<◌, ◌≤◌, length};
+ghost use Rattle.std.specs.Prelude.{◌≡◌, true, ◌<◌, ◌≤◌, length};
 ghost use Rattle.time.specs.Raw.{span};
-ghost use Rattle.cell.specs.Cell.{pages};
-ghost use Rattle.settle.specs.Pages.{opened, slot_for, on_page};
+ghost use Rattle.cell.specs.Cell.{array_bytes, array_cells, pages};
+ghost use Rattle.settle.specs.Pages.{opened, slot_for, on_page, slots_sound};
 ghost use Rattle.settle.specs.Settling.{charged};
-ghost use Rattle.settle.specs.Views.{cells_at, SameCells};
 
-use crate::cells::CellsMut;
 use cell::PAGE;
 use charging::{charge_slot, open_slot};
 use registers::Pulse;
@@ -28,29 +26,31 @@ pub fn opened(indices: &[u16]) -> usize
 }
 
 // A page takes its slot, the next one if it has none, and its cells are charged there. The answer is the slot.
+// Index, array and charges apart: the array is only read, and a CellsMut would ask for it to be lent to be changed.
 pub fn charge_page(
-    cells: &mut CellsMut,
+    index: &mut [u16],
+    array: &[u8],
+    charges: &mut [u64],
     page: usize,
     next: usize,
     pulse: Pulse,
     latch: &[u8; PAGE],
-    length: Duration,
+    exposure: Duration,
 ) -> usize
-    requires { (page < pages) × (next ≡ opened cells.old.index.now) }
-    ensures same { SameCells cells.old cells.new }
-    ensures charged { cells_at cells.new ≡ on_page (charged pulse latch.now (span length)) page (cells_at cells.old) }
-    ensures slot { result ≡ slot_for cells.old.index.now page }
+    requires { (length index.old ≡ pages) × (slots_sound index.old ≡ true) × (length array.now ≡ array_bytes) × (length charges.old ≡ array_cells) × (page < pages) × (next ≡ opened index.old) }
+    ensures index { index.new ≡ (on_page (charged pulse latch.now (span exposure)) page (record { index = index.old; array = array.now; charges = charges.old })).index }
+    ensures charges { charges.new ≡ (on_page (charged pulse latch.now (span exposure)) page (record { index = index.old; array = array.now; charges = charges.old })).charges }
+    ensures slot { result ≡ slot_for index.old page }
 {
     let direction = pulse.direction;
-    let entry = usize::from(cells.index[page]);
+    let entry = usize::from(index[page]);
     if entry == 0 {
-        let array = &mut *cells.array;
         let (stored, _) = array.as_chunks::<PAGE>();
-        open_slot(cells.charges, next, &stored[page]);
-        cells.index[page] = (next + 1) as u16;
-        charge_slot(cells.charges, next, latch, direction, length);
+        open_slot(charges, next, &stored[page]);
+        index[page] = (next + 1) as u16;
+        charge_slot(charges, next, latch, direction, exposure);
         return next;
     }
-    charge_slot(cells.charges, entry - 1, latch, direction, length);
+    charge_slot(charges, entry - 1, latch, direction, exposure);
     entry - 1
 }

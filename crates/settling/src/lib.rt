@@ -132,7 +132,17 @@ pub fn expose(cells: &mut CellsMut, events: &mut [u64], exposure: &Option<Exposu
     let mut count: usize = 0;
     for i in 0..number {
         let page = first + i;
-        let slot = charge_page(cells, page, next, pulse, exposure.latch, exposure.length);
+        let array = &mut *cells.array;
+        let slot = charge_page(
+            cells.index,
+            array,
+            cells.charges,
+            page,
+            next,
+            pulse,
+            exposure.latch,
+            exposure.length,
+        );
         if slot == next {
             next += 1;
         }

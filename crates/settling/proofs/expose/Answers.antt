@@ -1,21 +1,25 @@
 -- `settling::expose` meets its contract. The loop's invariant: index, array, charges and events are those after the pages passed.
 -- Assumes nothing.
 use mathlib.Core.Path.{◌≡◌, ap, ◌∙◌}
-use Prim.Native.Nat.{◌+◌, ◌<◌}
+use Prim.Native.Nat.{ℕ, ◌+◌, ◌<◌}
 use native.Mathlib.Omega.{arith}
 use borrow.Author.Rules.{rules}
 use mathlib.Core.Logic.{◌≢◌}
 use Rattle.time.specs.Raw.{span}
-use Rattle.settle.specs.Pages.{Cells, opened}
+use Rattle.settle.specs.Pages.{Cells, opened, on_page}
 use Rattle.settle.specs.Settling.{charged}
+use Rattle.settle.specs.declared.cells.CellsMut.{CellsMut}
 use Rattle.settle.specs.Views.{cells_at}
-use Rattle.settle.proofs.Slots.{SlotsOf, slots-from, opened-le}
-use Rattle.settle.proofs.Page.{slot_lt}
-use Rattle.settle.proofs.Loop.{page-array}
+use Rattle.settle.proofs.Slots.{SlotsOf, slots-from, slots-sound, opened-le}
+use Rattle.settle.proofs.Page.{slot_lt, page-slots}
 use Rattle.settle.proofs.Stored.{stored-events, stored-le}
 use Rattle.settle.proofs.Turns.{turn, turned_none, turned-all, turned-slots, turned-moves, turned-stays, turned_more, left-same}
 use Rattle.settling.proofs.expose.Goals as goal
 use Rattle.settling.proofs.expose.Goals.{then-slot-next, else-slot-next}
+
+-- the slots after a page
+charged-slots : (m : CellsMut) (page : ℕ) (f : ℕ → ℕ → ℕ) → SlotsOf (on_page f page (cells_at m))
+charged-slots m page f = page-slots (cells_at m) (slots-from m.index.now m.charges.now m.index_long m.charges_long m.sound) page f
 
 pub returns-in_default-clause-left : goal.returns-in_default-clause-left
 returns-in_default-clause-left c = rw c.in_default.is (left-same (cells_at c.args.cells.now) c.args.events.now)
@@ -35,8 +39,29 @@ loop-i-init c =
 pub charge_page-slot-requires : goal.charge_page-slot-requires
 charge_page-slot-requires c =
     let room = rw c.in-Some.is at c.requires in
-    let t = c.loop-i.invariant.1 in
-    (omega arith, t.next_is)
+    let m = c.loop-i.cells in
+    (m.index_long, m.sound, m.array_long, m.charges_long, omega arith, c.loop-i.invariant.1.next_is)
+
+pub invariant_of-cells-clause-index_long : goal.invariant_of-cells-clause-index_long
+invariant_of-cells-clause-index_long c =
+    let e = c.in-Some.exposure in
+    let f = charged e.pulse e.latch.now (span e.length) in
+    let page = c.from-first.result + c.loop-i.i in
+    rw c.charge_page-slot.ensures.index (charged-slots c.loop-i.cells page f).pages
+
+pub invariant_of-cells-clause-charges_long : goal.invariant_of-cells-clause-charges_long
+invariant_of-cells-clause-charges_long c =
+    let e = c.in-Some.exposure in
+    let f = charged e.pulse e.latch.now (span e.length) in
+    let page = c.from-first.result + c.loop-i.i in
+    rw c.charge_page-slot.ensures.charges (charged-slots c.loop-i.cells page f).room
+
+pub invariant_of-cells-clause-sound : goal.invariant_of-cells-clause-sound
+invariant_of-cells-clause-sound c =
+    let e = c.in-Some.exposure in
+    let f = charged e.pulse e.latch.now (span e.length) in
+    let page = c.from-first.result + c.loop-i.i in
+    rw c.charge_page-slot.ensures.index (slots-sound (charged-slots c.loop-i.cells page f))
 
 pub overflow_add-next : goal.overflow_add-next
 overflow_add-next c =
@@ -75,14 +100,8 @@ loop-i-preserved c =
       | then-slot-next w ↦ w.next-is ∙ turned-moves t inside room.0 slot e.slot (omega arith)
       | else-slot-next w ↦ w.next-is ∙ turned-stays t inside room.0 slot e.slot (omega arith)
     ] in
-    let f = charged lasting.pulse lasting.latch.now (span lasting.length) in
-    let stands = ap (λ (k : Cells). k.array) e.charged ∙ page-array f (cells_at l.cells) (lasting.pulse.first + l.i) in
-    let array = rw (← r.charges, stands) at r.array in
-    let events = rw stands at r.events in
-    let count = rw stands at r.count in
-    let index = r.index ∙ ap (λ (k : Cells). k.index) e.charged in
-    let charges = r.charges ∙ ap (λ (k : Cells). k.charges) e.charged in
-    (search rules, turned_more t inside room.0 slot e.slot x.cells.now.array_long index charges next array events count)
+    let array = rw (← r.charges) at r.array in
+    (search rules, turned_more t inside room.0 slot e.slot x.cells.now.array_long (r.index ∙ e.index) (r.charges ∙ e.charges) next array r.events r.count)
 
 pub returns-clause-left : goal.returns-clause-left
 returns-clause-left c =
