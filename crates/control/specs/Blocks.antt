@@ -1,8 +1,12 @@
 -- The blocks that the erase register selects. Document 01, "Pulses and settling".
 -- Assumes nothing.
-use Rattle.std.specs.Prelude.{ℕ, ◌+◌, ◌-◌, ◌/◌, ◌≡◌, cond, List, [], ◌∷◌, eqb}
+use Rattle.std.specs.Prelude.{ℕ, ◌+◌, ◌-◌, ◌/◌, ◌≡◌, Bool, cond, ◌&&◌, List, [], ◌∷◌, leb, ltb, eqb}
 use Rattle.cell.specs.Cell.{page_bytes, pages}
 use Rattle.control.specs.declared.Range.{Range}
+
+-- whether a page lies in a range
+unfoldable pub covers : Range → ℕ → Bool
+covers range page = leb range.first page && ltb page (range.first + range.pages)
 
 -- the pages from one address to another, the last byte
 abbrev pub block : ℕ → ℕ → Range

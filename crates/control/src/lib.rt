@@ -40,3 +40,18 @@ pub struct Range {
     pub first: u16,
     pub pages: u16,
 }
+
+impl Range {
+    ghost use Rattle.std.specs.Prelude.{◌≡◌};
+    ghost use Rattle.control.specs.Blocks.{covers};
+
+    // Whether a page lies in it.
+    #[tactic(auto, unfolding(crate::specs::Blocks::covers))]
+    pub fn covers(self, page: usize) -> bool
+        ensures { result ≡ covers self page }
+    {
+        let first = usize::from(self.first);
+        let end = first + usize::from(self.pages);
+        (first <= page) & (page < end)
+    }
+}

@@ -3,6 +3,7 @@ ghost use Rattle.std.specs.Prelude.{◌<◌};
 ghost use Rattle.time.specs.Raw.{span};
 
 use cell::PAGE;
+use control::Range;
 use registers::Pulse;
 use time::{Duration, Time};
 
@@ -70,12 +71,15 @@ impl Exposure<'_> {
     }
 
     // Whether it reaches a page.
-    #[tactic(auto, unfolding(crate::specs::Settling::covers))]
+    #[tactic(auto, unfolding(crate::specs::Settling::covers, control::specs::Blocks::covers))]
     pub fn covers(&self, page: usize) -> bool
         ensures { result ≡ covers self.now.pulse page }
     {
-        let first = usize::from(self.pulse.first);
-        let end = first + usize::from(self.pulse.pages);
-        (first <= page) & (page < end)
+        let pulse = self.pulse;
+        let range = Range {
+            first: pulse.first,
+            pages: pulse.pages,
+        };
+        range.covers(page)
     }
 }
