@@ -6,3 +6,4 @@ pub mod Slot
 pub mod Rule
 pub mod Sensed
 pub mod Ceiling
+pub mod Chunks

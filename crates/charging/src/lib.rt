@@ -74,7 +74,7 @@ pub fn first_charge(stored: u8) -> u64
 }
 
 // A page's first charges, from its stored bytes: each is read once for its eight cells.
-// A page's cells are a slice: a stretch of the store would come as an array in a `Some`, beside a `None` that never comes.
+// A page's cells are a slice: `as_chunks_mut` tells nothing of what is written back, and `first_chunk_mut` has a `None` that never comes.
 fn open(cells: &mut [u64], bytes: &[u8; PAGE])
     requires { length cells.old ≡ page_cells }
     ensures { cells.new ≡ opened_page bytes.now cells.old }

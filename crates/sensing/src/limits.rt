@@ -1,9 +1,9 @@
 // The ceilings of 256 cells, worked out once for all that they sense.
-ghost use Rattle.std.specs.Prelude.{◌≡◌, ◌+◌, ◌-◌, ◌*◌, ◌<◌, ◌≤◌, length};
-ghost use Rattle.cell.specs.Cell.{ceiling_of, ceiling_table, from_bits, tabulate, sensed_cell, sensed_byte, sensed_page, page_bytes, page_cells, array_bytes, at};
+ghost use Rattle.std.specs.Prelude.{◌≡◌, ◌+◌, ◌-◌, ◌*◌, ◌<◌, ◌≤◌};
+ghost use Rattle.cell.specs.Cell.{ceiling_of, ceiling_table, from_bits, tabulate, sensed_cell, sensed_byte, sensed_page, page_bytes, array_bytes, at};
 
 use cell::classes::classes;
-use cell::{PAGE, Sense};
+use cell::{PAGE, PAGE_CELLS, Sense};
 
 const NORMAL: [u64; 16] = [
     3332315058476564154,
@@ -122,9 +122,9 @@ impl Ceilings {
         self.sense_nibble(address, cells, 0) + 16 * self.sense_nibble(address, cells, 4)
     }
 
-    // The 128 bytes that a page's cells sense; the page begins at `address`. The cells are a stretch of the store, so a slice.
-    pub fn sense_page(&self, address: usize, cells: &[u64], out: &mut [u8; PAGE])
-        requires { (address ≤ array_bytes - page_bytes) × (length cells.now ≡ page_cells) }
+    // The 128 bytes that a page's cells sense; the page begins at `address`.
+    pub fn sense_page(&self, address: usize, cells: &[u64; PAGE_CELLS], out: &mut [u8; PAGE])
+        requires { address ≤ array_bytes - page_bytes }
         ensures { out.new ≡ sensed_page self.now.sense address cells.now out.old }
     {
         let (bytes, _) = cells.as_chunks::<8>();

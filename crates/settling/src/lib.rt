@@ -108,10 +108,9 @@ fn resense_page(
     ensures count { result ≡ count + length (changes 0 cells.old.array.now cells.new.array.now) }
 {
     let mut bytes = [0u8; PAGE];
-    let from = slot * PAGE_CELLS;
-    let to = from + PAGE_CELLS;
     let seen = cells.seen();
-    ceilings.sense_page(page * PAGE, &seen.charges[from..to], &mut bytes);
+    let (stored, _) = seen.charges.as_chunks::<PAGE_CELLS>();
+    ceilings.sense_page(page * PAGE, &stored[slot], &mut bytes);
     store_page(cells.array, events, page * PAGE, &bytes, count)
 }
 

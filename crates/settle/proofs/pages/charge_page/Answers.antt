@@ -1,13 +1,12 @@
 -- `settle::pages::charge_page` meets its contract: a page without a slot takes the next one, where its first charges are charged; a
 -- page with one is charged there and keeps its entry. Assumes nothing.
-use mathlib.Core.Path.{◌≡◌, refl, ap, sym, ◌∙◌}
-use Prim.Native.Nat.{ℕ, zero, suc, ◌+◌, ◌-◌, ◌*◌, ◌<◌}
+use mathlib.Core.Path.{◌≡◌, ap, sym, ◌∙◌}
+use Prim.Native.Nat.{ℕ, suc, ◌-◌, ◌<◌}
 use mathlib.Core.List.{List, []}
-use lib.ListN.{set, get_or, drop}
-use Rattle.std.specs.Simd.{first_chunks}
-use lib.Seq.{get_or-take, get_or-drop}
+use lib.ListN.{set, get_or}
 use Rattle.time.specs.Raw.{span}
 use Rattle.cell.specs.Cell.{at}
+use Rattle.cell.proofs.Chunks.{chunk-at}
 use Rattle.settle.specs.Pages.{Cells}
 use Rattle.settle.specs.Settling.{charged}
 use Rattle.settle.proofs.Slots.{opened-lt, entry-le}
@@ -16,16 +15,6 @@ use Rattle.settle.proofs.Loop.{page-charged, page-opened, page-kept, page-next}
 use native.Mathlib.Omega.{arith}
 use borrow.Author.Rules.{rules}
 use Rattle.settle.proofs.pages.charge_page.Goals as goal
-
--- the byte i of a page
-stored : (n page : ℕ) (array : List ℕ) → page < n → (i : ℕ) → i < 128 → at (get_or (first_chunks 128 n array) page []) i ≡ at array (page * 128 + i)
-stored zero page array h i g = absurd (omega arith)
-stored (suc n) zero array h i g =
-    let e : i ≡ 0 * 128 + i = omega arith in
-    get_or-take 128 array i 0 g ∙ ap (at array) e
-stored (suc n) (suc page) array h i g =
-    let e : 128 + (page * 128 + i) ≡ suc page * 128 + i = omega arith in
-    stored n page (drop 128 array) (omega arith) i g ∙ get_or-drop 128 array (page * 128 + i) 0 ∙ ap (at array) e
 
 pub open_slot-requires : goal.open_slot-requires
 open_slot-requires c =
@@ -54,7 +43,7 @@ pub returns-then-entry-eq0-clause-charges : goal.returns-then-entry-eq0-clause-c
 returns-then-entry-eq0-clause-charges c =
     let x = c.args in
     let k : Cells = record { index = x.index.now; array = x.array.now; charges = x.charges.now } in
-    let own = λ (i : ℕ) (h : i < 128). ap (λ (xs : List (List ℕ)). at (get_or xs x.page []) i) c.as_chunks.ensures.front ∙ stored _ x.page x.array.now (omega arith) i h in
+    let own = λ (i : ℕ) (h : i < 128). ap (λ (xs : List (List ℕ)). at (get_or xs x.page []) i) c.as_chunks.ensures.front ∙ chunk-at 128 _ x.page x.array.now (omega arith) i h in
     let new : at x.index.now x.page ≡ 0 = omega (arith, c.from-entry.ensures, c.if-entry-eq0.true) in
     rw (c.charge_slot.ensures, c.open_slot.ensures, c.requires.5) (sym (page-opened x.pulse x.latch.now (span x.exposure) k x.page _ new own))
 
