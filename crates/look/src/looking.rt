@@ -1,14 +1,14 @@
-// Looking at a time: what a settle then would leave, worked out for what is asked, and nothing kept. Here the exposure that a look
-// adds, and charges.
+// Looking at a time: what a settle then would leave, worked out for what is asked, and nothing kept. Here the view of a look, and
+// charges.
 ghost use Rattle.std.specs.Prelude.{◌≡◌, true, false, ◌<◌, Some, IfSome, IfNone};
 ghost use Rattle.time.specs.Raw.{span};
 ghost use Rattle.cell.specs.Cell.{array_cells};
 ghost use Rattle.settle.specs.Pages.{cell_at};
 ghost use Rattle.settle.specs.Settling.{charged, covers};
-ghost use Rattle.settle.specs.Views.{cells_in, after_exposure};
-ghost use Rattle.flash.specs.Chip.{cells, settled_at};
+ghost use Rattle.flash.specs.Chip.{settled_at};
 ghost use Rattle.flash.specs.Looking.{charge_at};
 ghost use Rattle.flash.specs.Views.{chip_of};
+ghost use Rattle.look.specs.Views.{cells_after};
 
 use cell::PAGE_CELLS;
 use charging::{bit, expose};
@@ -17,27 +17,51 @@ use settle::cells::CellsRef;
 use settle::exposure::Exposure;
 use time::Time;
 
-// What a look at a time exposes.
-pub fn exposure_at<'a>(held: &'a Held<'_>, time: Time) -> Option<Exposure<'a>>
-    ensures { settled_at time (chip_of held.now) ≡ after_exposure result (cells (chip_of held.now)) }
-{
-    let registers = &held.flash.registers;
-    Exposure::at(
-        registers.pulse(),
-        &registers.latch,
-        held.flash.pulse_since,
-        time,
-    )
+// What a look at a time sees: the cells, and what a settle then would expose of them.
+#[derive(Clone, Copy)]
+pub struct View<'a> {
+    pub cells: CellsRef<'a>,
+    pub exposure: Option<Exposure<'a>>,
 }
 
-// The exposure where it covers a page, and none where the page stays.
-pub fn covering<'a>(exposure: &'a Option<Exposure<'a>>, page: usize) -> Option<&'a Exposure<'a>>
-    ensures some { IfSome result (λ found. (exposure.now ≡ Some found.now) × (covers found.now.pulse page ≡ true)) }
-    ensures none { IfNone result (IfSome exposure.now (λ other. covers other.pulse page ≡ false)) }
-{
-    match exposure {
-        Some(exposure) if exposure.covers(page) => Some(exposure),
-        _ => None,
+impl View<'_> {
+    // The view of a look at a time.
+    pub fn at<'a>(held: &'a Held<'_>, time: Time) -> View<'a>
+        ensures { cells_after result ≡ settled_at time (chip_of held.now) }
+    {
+        let registers = &held.flash.registers;
+        View {
+            cells: held.cells(),
+            exposure: Exposure::at(
+                registers.pulse(),
+                &registers.latch,
+                held.flash.pulse_since,
+                time,
+            ),
+        }
+    }
+
+    // The exposure where it covers a page, and none where the page stays.
+    pub fn covering(&self, page: usize) -> Option<&Exposure<'_>>
+        ensures some { IfSome result (λ found. (self.now.exposure ≡ Some found.now) × (covers found.now.pulse page ≡ true)) }
+        ensures none { IfNone result (IfSome self.now.exposure (λ other. covers other.pulse page ≡ false)) }
+    {
+        match &self.exposure {
+            Some(exposure) if exposure.covers(page) => Some(exposure),
+            _ => None,
+        }
+    }
+
+    // The charge of the cell i.
+    pub fn charge(&self, i: usize) -> u64
+        requires { i < array_cells }
+        ensures { result ≡ cell_at (cells_after self.now) i }
+    {
+        let charge = self.cells.charge(i);
+        match self.covering(i / PAGE_CELLS) {
+            None => charge,
+            Some(exposure) => charged(exposure, i, charge),
+        }
     }
 }
 
@@ -50,23 +74,11 @@ pub fn charged(exposure: &Exposure, i: usize, charge: u64) -> u64
     expose(exposure.pulse.direction, bit, exposure.length, charge)
 }
 
-// The charge of the cell i after an exposure.
-pub fn charge_after(cells: &CellsRef, exposure: &Option<Exposure>, i: usize) -> u64
-    requires { i < array_cells }
-    ensures { result ≡ cell_at (after_exposure exposure.now (cells_in cells.now)) i }
-{
-    let charge = cells.charge(i);
-    match covering(exposure, i / PAGE_CELLS) {
-        None => charge,
-        Some(exposure) => charged(exposure, i, charge),
-    }
-}
-
 // The charge of the cell i at a time.
 #[tactic(auto, unfolding(flash::specs::Looking::charge_at))]
 pub fn cell_charge(held: &Held, i: usize, time: Time) -> u64
     requires { i < array_cells }
     ensures { result ≡ charge_at time (chip_of held.now) i }
 {
-    charge_after(&held.cells(), &exposure_at(held, time), i)
+    View::at(held, time).charge(i)
 }

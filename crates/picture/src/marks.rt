@@ -2,19 +2,16 @@
 ghost use Rattle.std.specs.Prelude.{◌≡◌, ◌<◌, ◌≤◌, length};
 ghost use Rattle.time.specs.declared.Time.{Time};
 ghost use Rattle.cell.specs.Cell.{pages};
-ghost use Rattle.settle.specs.Views.{cells_in, after_exposure};
 ghost use Rattle.flash.specs.Chip.{Chip, settled_at};
 ghost use Rattle.flash.specs.Views.{chip_of};
+ghost use Rattle.look.specs.Views.{cells_after};
 ghost use Rattle.picture.specs.Outputs.{written};
 ghost use Rattle.picture.specs.Marks.{charged_at, mark_at};
 
 use crate::cells::holds_charge;
 use cell::PAGES;
 use flash::held::Held;
-use look::imaging::blank_after;
-use look::looking::exposure_at;
-use settle::cells::CellsRef;
-use settle::exposure::Exposure;
+use look::looking::View;
 use time::Time;
 
 // Whether a page holds a charge at a time.
@@ -23,18 +20,18 @@ pub fn charged(held: &Held, page: usize, time: Time) -> bool
     requires { page < pages }
     ensures { result ≡ charged_at time (chip_of held.now) page }
 {
-    holds_charge(&held.cells(), &exposure_at(held, time), page)
+    holds_charge(&View::at(held, time), page)
 }
 
-// The mark of a page after an exposure, at each time whose settle would leave what it leaves.
-fn mark_after(cells: &CellsRef, exposure: &Option<Exposure>, page: usize) -> u8
+// The mark of a page in a view, at each time whose settle would leave its cells.
+fn mark_after(view: &View, page: usize) -> u8
     requires { page < pages }
-    ensures { (t : Time) (k : Chip) → settled_at t k ≡ after_exposure exposure.now (cells_in cells.now) → result ≡ mark_at t k page }
+    ensures { (t : Time) (k : Chip) → settled_at t k ≡ cells_after view.now → result ≡ mark_at t k page }
 {
-    if !blank_after(cells, exposure, page) {
+    if !view.blank(page) {
         return b'#';
     }
-    if holds_charge(cells, exposure, page) {
+    if holds_charge(view, page) {
         return b'+';
     }
     b'.'
@@ -45,7 +42,7 @@ pub fn mark(held: &Held, page: usize, time: Time) -> u8
     requires { page < pages }
     ensures { result ≡ mark_at time (chip_of held.now) page }
 {
-    mark_after(&held.cells(), &exposure_at(held, time), page)
+    mark_after(&View::at(held, time), page)
 }
 
 // The marks of all pages at a time, into `out`, whose bytes past them stay: so it is a slice with room, and no array.
@@ -54,9 +51,8 @@ pub fn write_marks(held: &Held, time: Time, out: &mut [u8])
     requires { pages ≤ length out.old }
     ensures { out.new ≡ written (mark_at time (chip_of held.now)) pages out.old }
 {
-    let cells = held.cells();
-    let exposure = exposure_at(held, time);
+    let view = View::at(held, time);
     for page in 0..PAGES {
-        out[page] = mark_after(&cells, &exposure, page);
+        out[page] = mark_after(&view, page);
     }
 }

@@ -2,16 +2,14 @@
 ghost use Rattle.std.specs.Prelude.{◌≡◌, ◌≤◌, length};
 ghost use Rattle.cell.specs.Cell.{array_cells};
 ghost use Rattle.settle.specs.Pages.{cell_at};
-ghost use Rattle.settle.specs.Views.{cells_in, after_exposure};
 ghost use Rattle.flash.specs.Views.{chip_of};
+ghost use Rattle.look.specs.Views.{cells_after};
 ghost use Rattle.picture.specs.Outputs.{written};
 ghost use Rattle.picture.specs.Shades.{shade_of, shade_at};
 
 use cell::{CELLS, FULL};
 use flash::held::Held;
-use look::looking::{charge_after, exposure_at};
-use settle::cells::CellsRef;
-use settle::exposure::Exposure;
+use look::looking::View;
 use time::Time;
 
 // From one shade to the next it takes FULL / 255, which is this less 1/51: the shade s begins at s steps less floor(s / 51), and no product
@@ -34,14 +32,14 @@ pub fn shade(charge: u64) -> u8
     low as u8
 }
 
-// The shades of all cells after an exposure, into `out`, whose bytes past them stay: so it is a slice with room, and no array.
+// The shades of all cells of a view, into `out`, whose bytes past them stay: so it is a slice with room, and no array.
 #[tactic(auto, using(crate::proofs::Written::writes))]
-fn write_exposed(cells: &CellsRef, exposure: &Option<Exposure>, out: &mut [u8])
+fn write_exposed(view: &View, out: &mut [u8])
     requires { array_cells ≤ length out.old }
-    ensures { out.new ≡ written (λ i. shade_of (cell_at (after_exposure exposure.now (cells_in cells.now)) i)) array_cells out.old }
+    ensures { out.new ≡ written (λ i. shade_of (cell_at (cells_after view.now) i)) array_cells out.old }
 {
     for i in 0..CELLS {
-        out[i] = shade(charge_after(cells, exposure, i));
+        out[i] = shade(view.charge(i));
     }
 }
 
@@ -51,5 +49,5 @@ pub fn write_shades(held: &Held, time: Time, out: &mut [u8])
     requires { array_cells ≤ length out.old }
     ensures { out.new ≡ written (shade_at time (chip_of held.now)) array_cells out.old }
 {
-    write_exposed(&held.cells(), &exposure_at(held, time), out);
+    write_exposed(&View::at(held, time), out);
 }

@@ -11,8 +11,8 @@ use Rattle.picture.proofs.cells.holds_charge.Goals as goal
 pub loop-i-preserved : goal.loop-i-preserved
 loop-i-preserved c =
     let l = c.loop-i in
-    let none : c.charge_after-charge.result ≤ 0 = omega arith in
-    l.invariant ∙ rw (holds-turn _ _ l.i (omega arith), ← c.charge_after-charge.ensures, le-ltb 0 _ none)
+    let none : c.charge-charge.result ≤ 0 = omega arith in
+    l.invariant ∙ rw (holds-turn _ _ l.i (omega arith), ← c.charge-charge.ensures, le-ltb 0 _ none)
 
 pub returns : goal.returns
 unfolding holds_charge

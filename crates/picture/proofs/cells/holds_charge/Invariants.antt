@@ -4,9 +4,9 @@ use mathlib.Core.Path.{◌≡◌}
 use Prim.Native.Nat.{◌+◌, ◌-◌, ◌*◌}
 use Rattle.picture.specs.Marks.{holds_charge}
 use Rattle.settle.specs.Pages.{cell_at}
-use Rattle.settle.specs.Views.{cells_in, after_exposure}
+use Rattle.look.specs.Views.{cells_after}
 use Rattle.picture.proofs.cells.holds_charge.Given as goal
 
 abbrev pub invariant-loop-i : goal.invariant-loop-i
 invariant-loop-i l =
-    holds_charge (cell_at (after_exposure l.exposure (cells_in l.cells))) 1024 (l.page * 1024) ≡ holds_charge (cell_at (after_exposure l.exposure (cells_in l.cells))) (1024 - l.i) (l.page * 1024 + l.i)
+    holds_charge (cell_at (cells_after l.view)) 1024 (l.page * 1024) ≡ holds_charge (cell_at (cells_after l.view)) (1024 - l.i) (l.page * 1024 + l.i)

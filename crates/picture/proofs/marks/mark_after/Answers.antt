@@ -20,16 +20,16 @@ charged-then : (t : Time) (k : Chip) (c : Cells) (p : ℕ) → settled_at t k �
 unfolding charged_at charge_at
 charged-then t k c p e = ap (λ (c : Cells). holds_charge (cell_at c) 1024 (p * 1024)) (sym e)
 
-pub returns-then-not-blank_after : goal.returns-then-not-blank_after
+pub returns-then-not-blank : goal.returns-then-not-blank
 unfolding mark_at
-returns-then-not-blank_after c = λ t k e. rw (← blank-then t k _ c.args.page e, ← c.blank_after.ensures, c.if-not-blank_after.true)
+returns-then-not-blank c = λ t k e. rw (← blank-then t k _ c.args.page e, ← c.blank.ensures, c.if-not-blank.true)
 
 pub returns-then-holds_charge : goal.returns-then-holds_charge
 unfolding mark_at
 returns-then-holds_charge c = λ t k e.
-    rw (← blank-then t k _ c.args.page e, ← c.blank_after.ensures, c.if-not-blank_after.false, ← charged-then t k _ c.args.page e, ← c.holds_charge.ensures, c.if-holds_charge.true)
+    rw (← blank-then t k _ c.args.page e, ← c.blank.ensures, c.if-not-blank.false, ← charged-then t k _ c.args.page e, ← c.holds_charge.ensures, c.if-holds_charge.true)
 
 pub returns : goal.returns
 unfolding mark_at
 returns c = λ t k e.
-    rw (← blank-then t k _ c.args.page e, ← c.blank_after.ensures, c.if-not-blank_after.false, ← charged-then t k _ c.args.page e, ← c.holds_charge.ensures, c.if-holds_charge.false)
+    rw (← blank-then t k _ c.args.page e, ← c.blank.ensures, c.if-not-blank.false, ← charged-then t k _ c.args.page e, ← c.holds_charge.ensures, c.if-holds_charge.false)

@@ -4,8 +4,8 @@ use mathlib.Core.Path.{◌≡◌}
 use Rattle.picture.specs.Shades.{shade_of}
 use Rattle.picture.specs.Outputs.{written}
 use Rattle.settle.specs.Pages.{cell_at}
-use Rattle.settle.specs.Views.{cells_in, after_exposure}
+use Rattle.look.specs.Views.{cells_after}
 use Rattle.picture.proofs.shades.write_exposed.Given as goal
 
 abbrev pub invariant-loop-i : goal.invariant-loop-i
-invariant-loop-i l = l.out ≡ written (λ k. shade_of (cell_at (after_exposure l.exposure (cells_in l.cells)) k)) l.i l.initial.out
+invariant-loop-i l = l.out ≡ written (λ k. shade_of (cell_at (cells_after l.view) k)) l.i l.initial.out

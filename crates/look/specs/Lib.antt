@@ -1,0 +1,3 @@
+-- What a look at a time sees.
+-- Assumes nothing.
+pub mod Views
