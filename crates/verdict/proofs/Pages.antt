@@ -4,9 +4,8 @@ use mathlib.Core.Path.{◌≡◌, refl, sym, ap, ◌∙◌}
 use mathlib.Core.List.{List, [], ◌∷◌}
 use mathlib.Core.Bool.{Bool, true, false, cond, not}
 use Prim.Native.Nat.{ℕ, zero, suc, ◌+◌, ◌*◌, ◌/◌, ◌≤◌}
-use lib.Dec.{eqb}
-use lib.ListN.{length, take, drop}
-use Rattle.std.specs.List.{list_all, filter, range_with_len}
+use lib.ListN.{length}
+use Rattle.std.specs.List.{filter, range_with_len}
 use native.Mathlib.Nat.{add-zero, zero-add}
 use native.Mathlib.Numerals.{add-one}
 use native.Mathlib.Omega.{arith}
@@ -15,7 +14,6 @@ use Rattle.control.specs.Blocks.{erase_range, InOrder}
 use Rattle.control.proofs.Tiling.{blocks-in-order}
 use Rattle.flash.specs.Chip.{Chip}
 use Rattle.flash.specs.Looking.{image_at, blank_at}
-use Rattle.flash.proofs.Blank.{all-blank-list}
 use Rattle.verdict.specs.Legible.{legible, legible_in, legible_over}
 
 -- ---- the image at a time
@@ -40,12 +38,7 @@ legible-more image p (suc n) m =
     let r = legible-more image (suc p) n m in
     rw (e, d, r) (omega arith)
 
--- ---- as lists
-
-pub legible-list : (image : List ℕ) (p n : ℕ) → n ≡ 128 → (p * 128) + 128 ≤ length image
-    → legible image p ≡ not (list_all (λ b. eqb b 255) (take n (drop (p * 128) image)))
-unfolding legible
-legible-list image p n e h = rw (e, all-blank-list 128 (p * 128) image h)
+-- ---- as a list
 
 pub legible-count : (image : List ℕ) (p n : ℕ) → legible_in image p n ≡ length (filter (legible image) (range_with_len p n))
 unfolding legible_in

@@ -7,14 +7,15 @@ ghost use Rattle.verdict.specs.Legible.{legible, legible_in};
 
 use crate::blocks::{block_range, pages_touched};
 use cell::{FLASH_SIZE, PAGE};
+use look::imaging::stored_blank;
 
 // Whether a page of an image is legible.
+#[tactic(auto, unfolding(crate::specs::Legible::legible))]
 pub fn legible(image: &[u8], page: usize) -> bool
     requires { page * page_bytes + page_bytes ≤ length image.now }
     ensures { result ≡ legible image.now page }
 {
-    let start = page * PAGE;
-    !image[start..start + PAGE].iter().all(|b| *b == 0xFF)
+    !stored_blank(image, page * PAGE)
 }
 
 // How many of so many pages are legible.
