@@ -13,7 +13,11 @@ use registers::Registers;
 use rows::get_row;
 use rows::numbers::Number;
 use scan::state::StateAt;
-use snapshot::page_at;
+use snapshot::{
+    ENABLED, ERASE, ERASE_READY, ERROR, LATCH, LATCH_PAGE, MODE, MODULE, OSCILLATOR, PENDING,
+    PENDING_ADDRESS, PENDING_INSTANT, POWER_DOWN_DISABLED, PROGRAM_READY, PULSE_SINCE, READY,
+    RECOVERY, SUPPLY, SWE_READY, VERIFY_READY, page_at,
+};
 use time::Time;
 
 // An instant: the low half stands first.
@@ -33,9 +37,9 @@ fn pending_at(state: StateAt) -> Option<PendingSense>
     ensures room { state.entry.at + 256 ≤ length state.entry.bytes.now }
 {
     let StateAt { bytes, at } = state;
-    if bytes[at + 251] == 1 {
-        let address = u16::get(bytes, at + 252);
-        let ready = time_at(bytes, at + 254);
+    if bytes[at + PENDING] == 1 {
+        let address = u16::get(bytes, at + PENDING_ADDRESS);
+        let ready = time_at(bytes, at + PENDING_INSTANT);
         return Some(PendingSense { address, at: ready });
     }
     None
@@ -48,25 +52,25 @@ fn registers_at(state: StateAt) -> Registers
     let pending = pending_at(state);
     let StateAt { bytes, at } = state;
     let mut latch = [0u8; PAGE];
-    get_row(bytes, at + 5, &mut latch);
+    get_row(bytes, at + LATCH, &mut latch);
     Registers {
         control: bytes[at],
-        error: bytes[at + 1] == 1,
-        erase: bytes[at + 2],
-        enabled: bytes[at + 3] == 1,
-        power_down_disabled: bytes[at + 4] == 1,
+        error: bytes[at + ERROR] == 1,
+        erase: bytes[at + ERASE],
+        enabled: bytes[at + ENABLED] == 1,
+        power_down_disabled: bytes[at + POWER_DOWN_DISABLED] == 1,
         latch: latch,
-        page: u16::get(bytes, at + 133),
-        supply: supply_of(bytes[at + 135]),
-        oscillator: bytes[at + 136] == 1,
-        mode: mode_of(bytes[at + 137]),
-        module: bytes[at + 138] == 1,
-        ready: time_at(bytes, at + 139),
-        swe_ready: time_at(bytes, at + 155),
-        program_ready: time_at(bytes, at + 171),
-        erase_ready: time_at(bytes, at + 187),
-        recovery: time_at(bytes, at + 203),
-        verify_ready: time_at(bytes, at + 235),
+        page: u16::get(bytes, at + LATCH_PAGE),
+        supply: supply_of(bytes[at + SUPPLY]),
+        oscillator: bytes[at + OSCILLATOR] == 1,
+        mode: mode_of(bytes[at + MODE]),
+        module: bytes[at + MODULE] == 1,
+        ready: time_at(bytes, at + READY),
+        swe_ready: time_at(bytes, at + SWE_READY),
+        program_ready: time_at(bytes, at + PROGRAM_READY),
+        erase_ready: time_at(bytes, at + ERASE_READY),
+        recovery: time_at(bytes, at + RECOVERY),
+        verify_ready: time_at(bytes, at + VERIFY_READY),
         verify_pending: pending,
     }
 }
@@ -77,9 +81,9 @@ pub fn flash_at(state: StateAt, indices: [u16; PAGES]) -> Flash
     ensures { result ≡ flash_at state.entry.bytes.now state.entry.at indices }
 {
     let registers = registers_at(state);
-    let since = time_at(state.bytes, state.at + 219);
+    let since = time_at(state.bytes, state.at + PULSE_SINCE);
     let mut sensed = [0u8; 4];
-    get_row(state.bytes, state.end() - 4, &mut sensed);
+    get_row(state.bytes, state.end() - sensed.len(), &mut sensed);
     Flash {
         registers: registers,
         pulse_since: since,

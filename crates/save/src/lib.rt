@@ -24,7 +24,10 @@ use refusal::Refusal;
 use rows::numbers::Number;
 use rows::put_row;
 use settle::pages::opened;
-use snapshot::{COUNT, PAGE_LEN, page_at};
+use snapshot::{
+    COUNT, FIRST_PAGE, LATCH, PAGE_LEN, PENDING, READY, SENSE_ADDRESS, SENSE_END, SENSE_INSTANT,
+    SENSE_LEN, STATE_LEN, SUPPLY, page_at,
+};
 
 // The address of the page that has each slot. From the last page down, so that the first page with a slot stays.
 fn owners(held: &Held) -> [u16; PAGES]
@@ -133,9 +136,9 @@ fn put_pending(out: &mut [u8], at: usize, sense: Option<PendingSense>) -> usize
         }
         Some(due) => {
             out[at] = 1;
-            due.address.put(out, at + 1);
-            put_row(out, at + 3, &[due.at.1, due.at.0]);
-            at + 19
+            due.address.put(out, at + SENSE_ADDRESS);
+            put_row(out, at + SENSE_INSTANT, &[due.at.1, due.at.0]);
+            at + SENSE_END
         }
     }
 }
@@ -145,10 +148,10 @@ fn put_state(out: &mut [u8], at: usize, flash: Flash)
     ensures { take (at + 256 + 18 * option_byte flash.registers.verify_pending) out.new ≡ take at out.old ++ state.write (state_fields flash) }
 {
     put_controls(out, at, flash);
-    put_latched(out, at + 5, flash);
-    put_supplies(out, at + 135, flash);
-    put_instants(out, at + 139, flash);
-    let end = put_pending(out, at + 251, flash.registers.verify_pending);
+    put_latched(out, at + LATCH, flash);
+    put_supplies(out, at + SUPPLY, flash);
+    put_instants(out, at + READY, flash);
+    let end = put_pending(out, at + PENDING, flash.registers.verify_pending);
     put_row(out, end, &flash.sensed);
 }
 
@@ -157,10 +160,10 @@ fn snapshot_length(count: usize, sense: Option<PendingSense>) -> usize
     requires { count ≤ pages }
     ensures { result ≡ snapshot_length count sense }
 {
-    let base = 49412 + count * PAGE_LEN;
+    let base = FIRST_PAGE + STATE_LEN + count * PAGE_LEN;
     match sense {
         None => base,
-        Some(_) => base + 18,
+        Some(_) => base + SENSE_LEN,
     }
 }
 

@@ -16,7 +16,7 @@ use cell::{FULL, PAGE, PAGE_BYTES, PAGES};
 use checks::placed;
 use refusal::Refusal;
 use rows::numbers::Number;
-use snapshot::{COUNT, FIRST_PAGE, page_at};
+use snapshot::{COUNT, FIRST_PAGE, PENDING, SENSE_LEN, STATE_LEN, SUPPLY, page_at};
 use std::num::wrapping_sub_u64;
 
 // The highest bit of a charge.
@@ -62,6 +62,16 @@ fn check_cells(bytes: &[u8], at: usize, count: usize) -> Result<(), Refusal>
     Ok(())
 }
 
+// The bytes before a place.
+fn check_end(bytes: &[u8], end: usize) -> Result<(), Refusal>
+    ensures { told result ≡ end_number bytes.now end }
+{
+    if bytes.len() < end {
+        return Err(Refusal::EndsEarly);
+    }
+    Ok(())
+}
+
 // The index that is filled here and below is an array beside the bytes and no value with facts: it is sound only when it is whole.
 // The address of a charge page: a field that is refused if it is misaligned, past the end or in the index already.
 #[tactic(auto, unfolding(snapshot::specs::Places::address_number))]
@@ -69,9 +79,7 @@ fn check_address(bytes: &[u8], at: usize, indices: &[u16; PAGES]) -> Result<(), 
     requires { at < 2 ^ 32 }
     ensures { told result ≡ address_number indices.now bytes.now at }
 {
-    if bytes.len() < at + 2 {
-        return Err(Refusal::EndsEarly);
-    }
+    check_end(bytes, at + 2)?;
     let address = u16::get(bytes, at);
     if !placed(address, PAGE_BYTES) {
         return Err(Refusal::Field);
@@ -134,23 +142,17 @@ fn check_bytes(bytes: &[u8], at: usize, limits: &[u8]) -> Result<(), Refusal>
     Ok(())
 }
 
-// The bytes before a place.
-fn check_end(bytes: &[u8], end: usize) -> Result<(), Refusal>
-    ensures { told result ≡ end_number bytes.now end }
-{
-    if bytes.len() < end {
-        return Err(Refusal::EndsEarly);
-    }
-    Ok(())
-}
-
 // The bytes of the state that stands at a place: 18 more with a pending sense.
 #[tactic(auto, unfolding(snapshot::specs::Places::state_length))]
 pub fn state_length(bytes: &[u8], at: usize) -> usize
     requires { at + 252 ≤ length bytes.now }
     ensures { result ≡ state_length bytes.now at }
 {
-    if bytes[at + 251] == 1 { 274 } else { 256 }
+    if bytes[at + PENDING] == 1 {
+        STATE_LEN + SENSE_LEN
+    } else {
+        STATE_LEN
+    }
 }
 
 // The state.
@@ -162,10 +164,10 @@ fn check_state(bytes: &[u8], at: usize) -> Result<(), Refusal>
     let supplies = [2u8, 1, 5, 1];
     let option = [1u8];
     check_bytes(bytes, at, &controls)?;
-    check_end(bytes, at + 135)?;
-    check_bytes(bytes, at + 135, &supplies)?;
-    check_end(bytes, at + 251)?;
-    check_bytes(bytes, at + 251, &option)?;
+    check_end(bytes, at + SUPPLY)?;
+    check_bytes(bytes, at + SUPPLY, &supplies)?;
+    check_end(bytes, at + PENDING)?;
+    check_bytes(bytes, at + PENDING, &option)?;
     check_end(bytes, at + state_length(bytes, at))
 }
 
