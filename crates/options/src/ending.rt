@@ -4,7 +4,7 @@ ghost use Rattle.options.specs.Options.{range_asked, accepted, whole, ended};
 
 use crate::places::{is_given, said_of};
 use crate::values::{address_in, block_in, time_in};
-use crate::{Asked, Options, Parameter, Said, Stage, Trouble};
+use crate::{Asked, Given, Options, Parameter, Said, Stage, Trouble};
 use cell::PAGES;
 use control::Range;
 use verdict::blocks::{block_range, pages_touched};
@@ -66,11 +66,11 @@ fn whole<'a>(said: Said<'a>) -> Result<Asked<'a>, Trouble<'a>>
 
 // What is said at the end of the words, by the stage that the last of them leads to.
 #[tactic(auto, unfolding(crate::specs::Options::ended))]
-pub fn ended<'a>(said: Said<'a>, stage: Stage<'a>) -> Result<Asked<'a>, Trouble<'a>>
-    ensures { result ≡ ended said.entry stage.entry }
+pub fn ended<'a>(given: Given<'a>) -> Result<Asked<'a>, Trouble<'a>>
+    ensures { result ≡ ended given.entry.said given.entry.stage }
 {
-    match stage {
-        Stage::Open => whole(said),
+    match given.stage {
+        Stage::Open => whole(given.said),
         Stage::Wants(_, name) => Err(Trouble::NothingAfter(name)),
         Stage::Helped => Ok(Asked::Help),
         Stage::Wrong(trouble) => Err(trouble),

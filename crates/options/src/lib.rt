@@ -103,6 +103,5 @@ pub struct Given<'a> {
 pub fn options_of(args: &[u8]) -> Result<Asked<'_>, Trouble<'_>>
     ensures { Answer args.now result }
 {
-    let given = taking::all_words(args);
-    ending::ended(given.said, given.stage)
+    ending::ended(taking::all_words(args))
 }

@@ -124,13 +124,13 @@ fn valued<'a>(said: Said<'a>, p: Parameter, word: &'a [u8]) -> Given<'a>
 }
 
 #[tactic(auto, unfolding(crate::specs::Arguments::step_at))]
-fn step_at<'a>(said: Said<'a>, stage: Stage<'a>, word: &'a [u8]) -> Given<'a>
-    ensures { result ≡ step_at said.entry stage.entry word.entry }
+fn step_at<'a>(given: Given<'a>, word: &'a [u8]) -> Given<'a>
+    ensures { result ≡ step_at given.entry.said given.entry.stage word.entry }
 {
-    match stage {
-        Stage::Open => optional(said, parameter_named(word), word),
-        Stage::Wants(p, _) => valued(said, p, word),
-        Stage::Helped | Stage::Wrong(_) => Given { said, stage },
+    match given.stage {
+        Stage::Open => optional(given.said, parameter_named(word), word),
+        Stage::Wants(p, _) => valued(given.said, p, word),
+        Stage::Helped | Stage::Wrong(_) => given,
     }
 }
 
@@ -144,7 +144,7 @@ pub fn all_words(args: &[u8]) -> Given<'_>
     };
     for piece in args.split_inclusive(|b| *b == 0) {
         if let Some(word) = piece.strip_suffix(&[0]) {
-            given = step_at(given.said, given.stage, word);
+            given = step_at(given, word);
         }
     }
     given
