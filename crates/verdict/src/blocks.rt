@@ -20,11 +20,11 @@ pub fn block_range(block: usize) -> Range
 }
 
 // Whether a page lies in a range.
+#[tactic(auto, unfolding(control::specs::Blocks::covers))]
 pub fn in_range(range: Range, page: usize) -> bool
     ensures { result ≡ in_range range page }
 {
-    let first = usize::from(range.first);
-    (first..first + usize::from(range.pages)).contains(&page)
+    range.covers(page)
 }
 
 // The block that a page lies in, none for a page past the array.
