@@ -5,6 +5,7 @@ ghost use Rattle.settle.specs.Pages.{slots_sound};
 
 use cell::PAGE_CELLS;
 use charging::{bit, first_charge};
+use std::array::from_fn;
 
 // Memory from which charges are read. It has its lengths, and used slots are one-to-one with opened pages.
 #[derive(Clone, Copy)]
@@ -41,11 +42,7 @@ impl CellsRef<'_> {
         requires { address < array_bytes }
         ensures { result ≡ tabulate (λ k. cell_at (cells_in self.now) (8 * address + k)) 8 }
     {
-        let mut cells = [0u64; 8];
-        for k in 0..8 {
-            cells[k] = self.charge(8 * address + k);
-        }
-        cells
+        from_fn(|k| self.charge(8 * address + k))
     }
 }
 
