@@ -34,10 +34,10 @@ fn unserved(
 ) -> u8
     ensures { result ≡ unserved address time pulse registers sensed }
 {
-    match pulse {
-        None => verified(address, time, registers, sensed),
-        Some(_) => 0xFF,
+    if pulse.is_some() {
+        return 0xFF;
     }
+    verified(address, time, registers, sensed)
 }
 
 // The answer of a call that settled; `sensed` is as the settle left it.

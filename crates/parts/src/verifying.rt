@@ -23,6 +23,7 @@ fn verify_sense(control: u8) -> Sense
     Sense::ProgramVerify
 }
 
+// The address of the pending sense; 0 without one, for `sense` asks for its bound before it knows whether one is due.
 fn sense_address(pending: Option<PendingSense>) -> u16
     ensures { result ≡ sense_address pending }
 {
