@@ -1,8 +1,11 @@
 -- The text of a report, from what was counted, the image and the map's marks: its parts in the order in which they are printed.
 -- Assumes nothing.
-use Rattle.std.specs.Prelude.{ℕ, zero, suc, ◌+◌, ◌-◌, ◌*◌, Bool, cond, not, ◌||◌, List, [], ◌∷◌, ◌++◌, eqb, leb, take, drop}
+use Rattle.std.specs.Prelude.{ℕ, zero, suc, ◌+◌, ◌-◌, ◌*◌, ◌<◌, Bool, cond, not, ◌||◌, List, [], ◌∷◌, ◌++◌, eqb, leb, take, drop}
+use Rattle.std.specs.Borrow.{MutBor}
 use Rattle.cell.specs.Cell.{page_bytes, pages, at}
+use Rattle.text.specs.declared.Text.{Text}
 use Rattle.text.specs.Text.{bytes, filled, said}
+use Rattle.text.specs.Says.{Says}
 use Rattle.report.specs.Report.{call_lines, pulse_line, page_line, legible_line, verdict_line}
 use Rattle.verdict.specs.declared.Tally.{Tally}
 use Rattle.verdict.specs.Blocks.{blocks, block_range}
@@ -14,6 +17,10 @@ use Rattle.summary.specs.declared.Judged.{Judged}
 unfoldable pub lines : (ℕ → List ℕ) → ℕ → ℕ → List ℕ
 lines line i zero = []
 lines line i (suc n) = line i ++ lines line (suc i) n
+
+-- whether each of the calls 0 to n - 1 puts its line, by what a call leaves of a cursor
+abbrev pub PutsEach : (MutBor Text → ℕ → MutBor Text → Type 0) → (ℕ → List ℕ) → ℕ → Type 0
+PutsEach call line n = (k : ℕ) → k < n → (old new : MutBor Text) → call old k new → Says (line k) old.now new.now
 
 -- ---- what was counted
 
