@@ -1,4 +1,5 @@
-// What the program says of its options and files where it can't begin, each with the offending word where there is one.
+// What the program says of its options and files where it can't begin, each with the offending word where there is one. Each function is
+// one call of the generic one and gives its sentence a name.
 #![tactic(auto)]
 
 ghost use Rattle.notices.specs.Notices.{no_option, no_word_after, no_block, no_address, no_time, no_history, second_history, image_length, two_ranges, ends_early, not_opened, not_written};

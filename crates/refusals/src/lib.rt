@@ -1,4 +1,5 @@
-// Refusals in document 01's own words. They are put as they are, since one of them has a mark of templates in it.
+// Refusals in document 01's own words. They are put as they are, since one of them has a mark of templates in it. Functions that differ in
+// a template alone each give their sentence a name.
 #![tactic(auto, using(text::proofs::Joined::some_text))]
 
 ghost use Rattle.text.specs.Says.{SaysSome};
