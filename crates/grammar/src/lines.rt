@@ -63,6 +63,7 @@ pub fn data_line(time: Time, w: LineWord) -> Result<Line, Fault>
     byte_line(time, address, word)
 }
 
+// This and the next have three lines each: one function over both would have five parameters, and a contract that speaks of a closure.
 #[tactic(auto, unfolding(crate::specs::Grammar::read_line))]
 pub fn read_line(time: Time, w: LineWord) -> Result<Line, Fault>
     ensures { result ≡ read_line time w.entry.line.now w.entry.place }

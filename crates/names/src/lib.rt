@@ -62,7 +62,7 @@ pub fn register_named(word: &[u8]) -> Option<u16>
     named(word, &registers)
 }
 
-// A mode's number.
+// A mode's number, since a request takes its mode as a number.
 pub fn mode_named(word: &[u8]) -> Option<u8>
     ensures { result ≡ named modes word.now }
 {
