@@ -1,6 +1,9 @@
 // The words of each call, after the word that names it.
-ghost use Rattle.std.specs.Prelude.{◌≡◌};
-ghost use Rattle.grammar.specs.Grammar.{ended, value_line, write_line, byte_line, data_line, read_line, word_line, oscillator_line, module_line, environment_line, cell_line, look_line};
+ghost use Rattle.std.specs.Prelude.{◌≡◌, MatchResult, Err};
+ghost use Rattle.lent.specs.declared.Request.{Request};
+ghost use Rattle.grammar.specs.declared.Line.TheVariants.{Call};
+ghost use Rattle.fields.specs.Fields.{address_in};
+ghost use Rattle.grammar.specs.Grammar.{next, ended, value_line, write_line, byte_line, data_line, read_line, word_line, oscillator_line, module_line, environment_line, cell_line, look_line};
 
 use crate::{Line, Looking};
 use cell::ARRAY_BYTES;
@@ -63,23 +66,40 @@ pub fn data_line(time: Time, w: LineWord) -> Result<Line, Fault>
     byte_line(time, address, word)
 }
 
-// This and the next have three lines each: one function over both would have five parameters, and a contract that speaks of a closure.
+// A call whose one word is an address below a limit.
+fn address_line<F: FnOnce(u16) -> Request>(
+    time: Time,
+    limit: u16,
+    past: Reason,
+    request: F,
+    w: LineWord,
+) -> Result<Line, Fault>
+    requires { F.IsAlwaysCallable request }
+    ensures { MatchResult (address_in limit past w.entry.line.now (next w.entry.line.now w.entry.place)) (λ a. (r : Request) × F.post request a r × (result ≡ ended (Call time r) w.entry.line.now (next w.entry.line.now w.entry.place))) (λ f. result ≡ Err f) }
+{
+    let word = w.next();
+    let address = address_in(limit, past, word)?;
+    ended(Line::Call(time, request(address)), word)
+}
+
 #[tactic(auto, unfolding(crate::specs::Grammar::read_line))]
 pub fn read_line(time: Time, w: LineWord) -> Result<Line, Fault>
     ensures { result ≡ read_line time w.entry.line.now w.entry.place }
 {
-    let word = w.next();
-    let address = address_in(ARRAY_BYTES, Reason::PastTheEnd, word)?;
-    ended(Line::Call(time, Request::Read8(address)), word)
+    address_line(time, ARRAY_BYTES, Reason::PastTheEnd, Request::Read8, w)
 }
 
 #[tactic(auto, unfolding(crate::specs::Grammar::word_line))]
 pub fn word_line(time: Time, w: LineWord) -> Result<Line, Fault>
     ensures { result ≡ word_line time w.entry.line.now w.entry.place }
 {
-    let word = w.next();
-    let address = address_in(ARRAY_BYTES - 1, Reason::WordPastTheEnd, word)?;
-    ended(Line::Call(time, Request::Read16(address)), word)
+    address_line(
+        time,
+        ARRAY_BYTES - 1,
+        Reason::WordPastTheEnd,
+        Request::Read16,
+        w,
+    )
 }
 
 #[tactic(auto, unfolding(crate::specs::Grammar::oscillator_line))]
