@@ -21,6 +21,7 @@ fn files_drafted<R: Files, S: Print>(
     memory: &mut Memory,
     time: Time,
 ) -> Result<(), Told> {
+    // No `memory.lent()`: it would borrow the whole memory, and the buffer is borrowed beside it.
     let lent = Lent {
         record: &memory.record,
         array: &memory.array,

@@ -10,7 +10,7 @@ use course::memory::{Array, BUFFER, Bench, Buffer, Charges, Events, Record};
 use course::{Manner, begun};
 use layout::{EVENT_WORDS, RECORD_LEN};
 use lent::memory::{Lent, LentMut};
-use options::{Asked, Options, options_of};
+use options::{Asked, Beginning, Options, options_of};
 use session::read_history;
 use std::rt::Files;
 use telling::beginning::{begin, last_settling};
@@ -49,17 +49,23 @@ const EMPTY: Memory = Memory {
 };
 
 // An empty path names no file.
-fn named(path: Option<&[u8]>) -> Option<&[u8]> {
+fn some_path(path: Option<&[u8]>) -> Option<&[u8]> {
     path.filter(|path| !path.is_empty())
+}
+
+fn some_beginning(begins: Beginning<'_>) -> Beginning<'_> {
+    match begins {
+        Beginning::Image(path) | Beginning::Snapshot(path) if path.is_empty() => Beginning::Empty,
+        _ => begins,
+    }
 }
 
 // The same with no file that is not named.
 fn with_names(options: Options<'_>) -> Options<'_> {
     Options {
-        image: named(options.image),
-        restore: named(options.restore),
-        picture: named(options.picture),
-        snapshot: named(options.snapshot),
+        begins: some_beginning(options.begins),
+        picture: some_path(options.picture),
+        snapshot: some_path(options.snapshot),
         ..options
     }
 }
@@ -75,13 +81,7 @@ fn serve<R: Files + Print + Eprint, S: Print>(
         array: &mut memory.array,
         charges: &mut memory.charges,
     };
-    begin(
-        outlets,
-        options.image,
-        options.restore,
-        &mut lent,
-        &mut memory.buffer,
-    )?;
+    begin(outlets, options.begins, &mut lent, &mut memory.buffer)?;
     let manner = Manner {
         events: options.events,
         go_on: options.go_on,

@@ -1,6 +1,6 @@
 -- The pages that are asked for lie in the array, on every way that the tests of each rule can go. Assumes nothing.
 use Prim.Native.Nat.{ℕ, ◌+◌, ◌/◌, ◌^◌, ◌≤◌, ◌<◌}
-use mathlib.Core.Bool.{Bool, true, false, cond, ◌&&◌}
+use mathlib.Core.Bool.{Bool, true, false, cond}
 use mathlib.Core.List.{List}
 use mathlib.Core.Path.{◌≡◌, refl}
 use native.Mathlib.Nat.{div-lt_iff_lt-mul}
@@ -13,12 +13,12 @@ use Rattle.control.specs.declared.Range.{Range}
 use Rattle.digits.specs.Digits.{hex_in}
 use Rattle.digits.specs.declared.NoNumber.{NoNumber}
 use Rattle.std.specs.Prelude.{Option, Some, None, Result, Ok, Err, IfOk, IfSome}
-use Rattle.std.specs.Option.{is_some}
 use Rattle.verdict.specs.Blocks.{pages_touched}
 use Rattle.options.specs.Arguments.{Word, below, said_of}
-use Rattle.options.specs.Options.{block_in, address_in, pages_asked, range_asked, accepted, run_of, with_history, whole, ended}
+use Rattle.options.specs.Options.{block_in, address_in, pages_asked, range_asked, beginning, accepted, run_of, with_beginning, with_history, whole, ended}
 use Rattle.options.specs.Inside.{PagesLie}
 use Rattle.options.specs.declared.Asked.{Asked}
+use Rattle.options.specs.declared.Beginning.{Beginning}
 use Rattle.options.specs.declared.Parameter.TheVariants as parameter
 use Rattle.options.specs.declared.Stage.{Stage}
 use Rattle.options.specs.declared.Stage.TheVariants.{Open, Wants, Helped, Wrong}
@@ -85,16 +85,19 @@ unfolding range_asked
 range-lies b f t = pages-lie (block_in b) (address_in f) (address_in t) (address-below f) (address-below t)
 
 module _ (said : List (Option Word)) where
-  run-lies : (history : Word) (r : Result Range Trouble) → RangeAskedLies r → ResultLies (run_of said history r)
+  run-lies : (history : Word) (begins : Beginning) (r : Result Range Trouble) → RangeAskedLies r → ResultLies (run_of said history begins r)
   unfolding accepted
-  run-lies history (Ok range) h = h
-  run-lies history (Err t) h = tt
+  run-lies history begins (Ok range) h = h
+  run-lies history begins (Err t) h = tt
+
+  beginning-lies : (history : Word) (b : Result Beginning Trouble) → ResultLies (with_beginning said history b)
+  beginning-lies history (Ok begins) =
+      run-lies history begins _ (range-lies (said_of said parameter.Block) (said_of said parameter.From) (said_of said parameter.To))
+  beginning-lies history (Err t) = tt
 
   history-lies : (o : Option Word) → ResultLies (with_history said o)
   history-lies None = tt
-  history-lies (Some history) =
-      either_way ResultLies (is_some (said_of said parameter.Image) && is_some (said_of said parameter.Restore)) tt
-      (run-lies history _ (range-lies (said_of said parameter.Block) (said_of said parameter.From) (said_of said parameter.To)))
+  history-lies (Some history) = beginning-lies history (beginning (said_of said parameter.Image) (said_of said parameter.Restore))
 
   pub ended_lies : (stage : Stage) → ResultLies (ended said stage)
   unfolding ended whole

@@ -1,7 +1,7 @@
 -- The options that the words of arguments give, or the first trouble with them: first what is wrong with one word, from left to right, then what is
 -- wrong with all of them together.
 -- Assumes nothing.
-use Rattle.std.specs.Prelude.{ℕ, cond, ◌&&◌, List, Option, Some, None, Result, Ok, Err, ltb}
+use Rattle.std.specs.Prelude.{ℕ, cond, List, Option, Some, None, Result, Ok, Err, ltb}
 use Rattle.std.specs.Option.{is_some}
 use Rattle.std.specs.Result.{result_ok}
 use Rattle.time.specs.declared.Time.{Time}
@@ -12,6 +12,8 @@ use Rattle.verdict.specs.Blocks.{block_range, pages_touched}
 use Rattle.options.specs.Arguments.{Word, block_named, address_named, said_of, given_by}
 use Rattle.options.specs.declared.Asked.{Asked}
 use Rattle.options.specs.declared.Asked.TheVariants.{Help, Run}
+use Rattle.options.specs.declared.Beginning.{Beginning}
+use Rattle.options.specs.declared.Beginning.TheVariants.{Empty, Image, Snapshot}
 use Rattle.options.specs.declared.Options.{Options}
 use Rattle.options.specs.declared.Parameter.TheVariants as parameter
 use Rattle.options.specs.declared.Stage.{Stage}
@@ -50,13 +52,19 @@ pages_asked (Some block) None (Some to) = Err BlockAndAddresses
 unfoldable pub range_asked : Option Word → Option Word → Option Word → Result Range Trouble
 range_asked block from to = pages_asked (block_in block) (address_in from) (address_in to)
 
+-- what the history begins with: an empty flash, an image, or a snapshot, of which one at most may be given
+abbrev pub beginning : Option Word → Option Word → Result Beginning Trouble
+beginning None None = Ok Empty
+beginning (Some path) None = Ok (Image path)
+beginning None (Some path) = Ok (Snapshot path)
+beginning (Some image) (Some snapshot) = Err ImageAndRestore
+
 -- the options where nothing is wrong
-unfoldable pub accepted : List (Option Word) → Word → Range → Options
-accepted said history range =
+unfoldable pub accepted : List (Option Word) → Word → Beginning → Range → Options
+accepted said history begins range =
     record {
       history = history;
-      image = said_of said parameter.Image;
-      restore = said_of said parameter.Restore;
+      begins = begins;
       picture = said_of said parameter.Picture;
       snapshot = said_of said parameter.Snapshot;
       events = is_some (said_of said parameter.Events);
@@ -66,16 +74,19 @@ accepted said history range =
       judged = range;
     }
 
-abbrev pub run_of : List (Option Word) → Word → Result Range Trouble → Result Asked Trouble
-run_of said history (Ok range) = Ok (Run (accepted said history range))
-run_of said history (Err t) = Err t
+abbrev pub run_of : List (Option Word) → Word → Beginning → Result Range Trouble → Result Asked Trouble
+run_of said history begins (Ok range) = Ok (Run (accepted said history begins range))
+run_of said history begins (Err t) = Err t
+
+abbrev pub with_beginning : List (Option Word) → Word → Result Beginning Trouble → Result Asked Trouble
+with_beginning said history (Ok begins) =
+    run_of said history begins (range_asked (said_of said parameter.Block) (said_of said parameter.From) (said_of said parameter.To))
+with_beginning said history (Err t) = Err t
 
 -- all words together, of which one has to be the history
 abbrev pub with_history : List (Option Word) → Option Word → Result Asked Trouble
 with_history said None = Err NoHistory
-with_history said (Some history) =
-    cond (is_some (said_of said parameter.Image) && is_some (said_of said parameter.Restore)) (Err ImageAndRestore)
-    (run_of said history (range_asked (said_of said parameter.Block) (said_of said parameter.From) (said_of said parameter.To)))
+with_history said (Some history) = with_beginning said history (beginning (said_of said parameter.Image) (said_of said parameter.Restore))
 
 unfoldable pub whole : List (Option Word) → Result Asked Trouble
 whole said = with_history said (said_of said parameter.History)

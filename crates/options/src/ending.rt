@@ -1,10 +1,10 @@
 // What is made of the words that are taken.
 ghost use Rattle.std.specs.Prelude.{◌≡◌};
-ghost use Rattle.options.specs.Options.{range_asked, accepted, whole, ended};
+ghost use Rattle.options.specs.Options.{range_asked, beginning, accepted, whole, ended};
 
 use crate::places::{is_given, said_of};
 use crate::values::{address_in, block_in, time_in};
-use crate::{Asked, Given, Options, Parameter, Said, Stage, Trouble};
+use crate::{Asked, Beginning, Given, Options, Parameter, Said, Stage, Trouble};
 use cell::PAGES;
 use control::Range;
 use verdict::blocks::{block_range, pages_touched};
@@ -31,14 +31,33 @@ fn range_asked<'a>(
     }
 }
 
+// What the history begins with, by the files of an image and of a snapshot that are given.
+fn beginning<'a>(
+    image: Option<&'a [u8]>,
+    restore: Option<&'a [u8]>,
+) -> Result<Beginning<'a>, Trouble<'a>>
+    ensures { result ≡ beginning image.entry restore.entry }
+{
+    match (image, restore) {
+        (None, None) => Ok(Beginning::Empty),
+        (Some(path), None) => Ok(Beginning::Image(path)),
+        (None, Some(path)) => Ok(Beginning::Snapshot(path)),
+        (Some(_), Some(_)) => Err(Trouble::ImageAndRestore),
+    }
+}
+
 #[tactic(auto, unfolding(crate::specs::Options::accepted))]
-fn accepted<'a>(said: Said<'a>, history: &'a [u8], range: Range) -> Options<'a>
-    ensures { result ≡ accepted said.entry history.entry range }
+fn accepted<'a>(
+    said: Said<'a>,
+    history: &'a [u8],
+    begins: Beginning<'a>,
+    range: Range,
+) -> Options<'a>
+    ensures { result ≡ accepted said.entry history.entry begins.entry range }
 {
     Options {
         history,
-        image: said_of(said, Parameter::Image),
-        restore: said_of(said, Parameter::Restore),
+        begins,
         picture: said_of(said, Parameter::Picture),
         snapshot: said_of(said, Parameter::Snapshot),
         events: is_given(said, Parameter::Events),
@@ -54,14 +73,14 @@ fn whole<'a>(said: Said<'a>) -> Result<Asked<'a>, Trouble<'a>>
     ensures { result ≡ whole said.entry }
 {
     let history = said_of(said, Parameter::History).ok_or(Trouble::NoHistory)?;
-    if is_given(said, Parameter::Image) & is_given(said, Parameter::Restore) {
-        return Err(Trouble::ImageAndRestore);
-    }
+    let image = said_of(said, Parameter::Image);
+    let restore = said_of(said, Parameter::Restore);
+    let begins = beginning(image, restore)?;
     let block = said_of(said, Parameter::Block);
     let from = said_of(said, Parameter::From);
     let to = said_of(said, Parameter::To);
     let range = range_asked(block, from, to)?;
-    Ok(Asked::Run(accepted(said, history, range)))
+    Ok(Asked::Run(accepted(said, history, begins, range)))
 }
 
 // What is said at the end of the words, by the stage that the last of them leads to.

@@ -37,12 +37,19 @@ pub enum Asked<'a> {
     Run(Options<'a>),
 }
 
+// What the history begins with: an empty flash, or the file of an image or of a snapshot.
+#[derive(Clone, Copy)]
+pub enum Beginning<'a> {
+    Empty,
+    Image(&'a [u8]),
+    Snapshot(&'a [u8]),
+}
+
 // What a run is asked for.
 #[derive(Clone, Copy)]
 pub struct Options<'a> {
     pub history: &'a [u8],
-    pub image: Option<&'a [u8]>,
-    pub restore: Option<&'a [u8]>,
+    pub begins: Beginning<'a>,
     pub picture: Option<&'a [u8]>,
     pub snapshot: Option<&'a [u8]>,
     pub events: bool,

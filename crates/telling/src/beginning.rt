@@ -8,6 +8,7 @@ use cell::FLASH_SIZE;
 use lent::making::make;
 use lent::memory::LentMut;
 use lent::opening::opened_record;
+use options::Beginning;
 use restore::read_snapshot;
 use slices::first;
 use std::rt::Files;
@@ -75,22 +76,19 @@ fn begin_from_snapshot<R: Files, S: Print>(
     })
 }
 
-// An image or a snapshot is begun with where one is named.
+// A run begins with what its options name.
 pub fn begin<R: Files, S: Print>(
     outlets: Outlets<R, S>,
-    image: Option<&[u8]>,
-    snapshot: Option<&[u8]>,
+    begins: Beginning,
     memory: &mut LentMut,
     buffer: &mut [u8],
 ) -> Result<(), Told>
     ensures { SameLent memory.old memory.new }
 {
-    if let Some(path) = image {
-        begin_from_image(outlets, path, memory, buffer)
-    } else if let Some(path) = snapshot {
-        begin_from_snapshot(outlets, path, memory, buffer)
-    } else {
-        begin_empty(memory)
+    match begins {
+        Beginning::Empty => begin_empty(memory),
+        Beginning::Image(path) => begin_from_image(outlets, path, memory, buffer),
+        Beginning::Snapshot(path) => begin_from_snapshot(outlets, path, memory, buffer),
     }
 }
 

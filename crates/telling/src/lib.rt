@@ -8,7 +8,7 @@ pub mod reading;
 pub mod saying;
 pub mod troubles;
 
-// Where a run reads and writes, and says what it tells of, and the writer that is lent for its complaints.
+// Where a run reads files, prints and writes, and the writer that is lent for its complaints.
 #[derive_where(Clone, Copy)]
 pub struct Outlets<'a, R, S> {
     pub rt: &'a R,
