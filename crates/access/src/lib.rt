@@ -5,7 +5,7 @@ ghost use Rattle.std.specs.Prelude.{◌≡◌};
 ghost use Rattle.control.specs.Bits.{control_value};
 ghost use Rattle.registers.specs.Access.{register, control_set, register_set, write_register};
 
-use bits::{ESU, FENR, FLAG, PSU, SWE, control_value, erase_after, erase_value, falls, flag, has};
+use bits::{EBR1, ESU, FENR, FLAG, FLMCR1, FLMCR2, FLPWCR, PSU, SWE, control_value, erase_after, erase_value, falls, flag, has};
 use control::verify::pending_after;
 use registers::Registers;
 use time::accepted::Accepted;
@@ -23,10 +23,10 @@ pub fn register(registers: Registers, address: u16) -> u8
         return 0;
     }
     match address {
-        0xf020 => registers.control,
-        0xf021 => flag(registers.error),
-        0xf022 => flag(registers.power_down_disabled),
-        0xf023 => registers.erase,
+        FLMCR1 => registers.control,
+        FLMCR2 => flag(registers.error),
+        FLPWCR => flag(registers.power_down_disabled),
+        EBR1 => registers.erase,
         _ => 0,
     }
 }
@@ -71,13 +71,13 @@ fn register_set(registers: Registers, address: u16, value: u8, now: Accepted) ->
     ensures { result ≡ register_set address value now.time registers }
 {
     match address {
-        0xf020 => write_control(registers, value, now),
-        0xf022 => {
+        FLMCR1 => write_control(registers, value, now),
+        FLPWCR => {
             let mut r = registers;
             r.power_down_disabled = has(value, FLAG);
             r
         }
-        0xf023 => {
+        EBR1 => {
             if has(registers.control, SWE) {
                 let mut r = registers;
                 r.erase = erase_value(value);

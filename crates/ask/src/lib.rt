@@ -10,31 +10,29 @@ ghost use Rattle.lent.specs.Views.{memory_at, SameLent, LeavesLent};
 use coding::write;
 use lent::checking::{call_of, call_refusal};
 use lent::memory::LentMut;
-use lent::{Answer, Request};
+use lent::{Answer, Asking};
 use perform::perform;
 use refusal::Refusal;
-use time::Time;
 
 // Any call: its answer, or why it is refused.
 pub fn ask(
     memory: &mut LentMut,
     events: &mut [u64],
-    request: Request,
-    time: Time,
+    asking: Asking,
 ) -> Result<Answer, Refusal>
     ensures same { SameLent memory.old memory.new }
-    ensures left { LeavesLent (outcome request time events.old (memory_at memory.old)) (told result) (count_of result) memory.new events.new }
-    ensures value { value_of result ≡ (outcome request time events.old (memory_at memory.old)).value }
-    ensures limit { value_of result < answer_limit (call_of request) }
+    ensures left { LeavesLent (outcome asking.request asking.time events.old (memory_at memory.old)) (told result) (count_of result) memory.new events.new }
+    ensures value { value_of result ≡ (outcome asking.request asking.time events.old (memory_at memory.old)).value }
+    ensures limit { value_of result < answer_limit (call_of asking.request) }
 {
     let flash = memory.seen().opened()?.flash;
-    let now = call_refusal(flash, request, time, events.len())?;
+    let now = call_refusal(flash, asking, events.len())?;
     let done = perform(
         flash,
         memory.array,
         memory.charges,
         events,
-        call_of(request),
+        call_of(asking.request),
         now,
     );
     write(memory.record, done.flash);

@@ -9,7 +9,7 @@ use Rattle.refusal.specs.Refusal.{numbered}
 use Rattle.lent.specs.Asked.{Outcome, outcome}
 use Rattle.grammar.specs.declared.Line.{Line}
 use Rattle.grammar.specs.declared.Line.TheVariants as line
-use Rattle.listing.specs.declared.Asking.{Asking}
+use Rattle.lent.specs.declared.Asking.{Asking}
 use Rattle.verdict.specs.Pulses.{raised}
 use Rattle.course.specs.declared.Complaint.{Complaint}
 use Rattle.course.specs.declared.Complaint.TheVariants as complaint

@@ -15,7 +15,7 @@ use Rattle.listing.proofs.Claimed.{replay3}
 use Rattle.grammar.specs.Grammar.{line_of}
 use Rattle.grammar.specs.declared.Line.{Line}
 use Rattle.grammar.specs.declared.Line.TheVariants as line
-use Rattle.listing.specs.declared.Asking.{Asking}
+use Rattle.lent.specs.declared.Asking.{Asking}
 use Rattle.listing.specs.Calls.{asking}
 use Rattle.history.specs.History.{calls_of}
 use Rattle.history.specs.Claim.{InTypes}

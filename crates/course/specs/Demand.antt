@@ -6,7 +6,7 @@ use Rattle.cell.specs.Cell.{array_bytes, array_cells, at}
 use Rattle.lent.specs.Memory.{Memory}
 use Rattle.ledger.specs.Lists.{Asked, Typed, new_memory, memory_after}
 use Rattle.ledger.specs.Claim.{Demand}
-use Rattle.listing.specs.declared.Asking.{Asking}
+use Rattle.lent.specs.declared.Asking.{Asking}
 use Rattle.listing.specs.Calls.{asking}
 use Rattle.course.specs.declared.Manner.{Manner}
 use Rattle.course.specs.Course.{begun_at}

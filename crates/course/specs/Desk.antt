@@ -15,7 +15,7 @@ use Rattle.grammar.specs.declared.Line.{Line}
 use Rattle.grammar.specs.declared.Line.TheVariants as line
 use Rattle.grammar.specs.declared.Looking.{Looking}
 use Rattle.grammar.specs.declared.Looking.TheVariants.{Whole, Byte, Cell}
-use Rattle.listing.specs.declared.Asking.{Asking}
+use Rattle.lent.specs.declared.Asking.{Asking}
 use Rattle.listing.specs.Calls.{asking_at}
 use Rattle.text.specs.Puts.{Puts}
 use Rattle.answers.specs.Answers.{answer_said, byte_said, cell_said, whole_said}

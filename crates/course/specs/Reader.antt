@@ -6,7 +6,7 @@ use Rattle.fields.specs.declared.Fault.{Fault}
 use Rattle.grammar.specs.declared.Line.{Line}
 use Rattle.grammar.specs.declared.Line.TheVariants.{Wrong}
 use Rattle.grammar.specs.Grammar.{line_of}
-use Rattle.listing.specs.declared.Asking.{Asking}
+use Rattle.lent.specs.declared.Asking.{Asking}
 use Rattle.history.specs.History.{calls_of, time_after}
 use Rattle.verdict.specs.Pulses.{raised}
 use Rattle.course.specs.Bounds.{longest}

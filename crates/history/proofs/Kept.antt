@@ -19,7 +19,7 @@ use Rattle.std.specs.Prelude.{Option}
 use Rattle.time.specs.declared.Time.{Time}
 use Rattle.grammar.specs.declared.Line.{Line}
 use Rattle.grammar.specs.Grammar.{line_of}
-use Rattle.listing.specs.declared.Asking.{Asking}
+use Rattle.lent.specs.declared.Asking.{Asking}
 use Rattle.listing.specs.Calls.{word_of, call_at, asking}
 use Rattle.listing.specs.Replaying.{stops, idle, asks_after, end_in, asks}
 use Rattle.listing.proofs.Numbers.{word_back}

@@ -10,7 +10,7 @@ use Rattle.ledger.specs.Lists.{Numbers}
 use Rattle.grammar.specs.declared.Looking.{Looking}
 use Rattle.grammar.specs.declared.Line.TheVariants.{Call, Look}
 use Rattle.grammar.specs.Grammar.{line_of}
-use Rattle.listing.specs.declared.Asking.{Asking}
+use Rattle.lent.specs.declared.Asking.{Asking}
 use Rattle.listing.specs.Calls.{asking, asking_at}
 use Rattle.listing.specs.Replaying.{asks}
 use Rattle.history.specs.History.{time_after, calls_in, numbers_of, Waiting, taken_all}

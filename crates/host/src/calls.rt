@@ -9,7 +9,7 @@ ghost use Rattle.lent.specs.Views.{memory_at, SameLent, LeavesLent};
 
 use ask::ask;
 use lent::memory::LentMut;
-use lent::{Answer, Request};
+use lent::{Answer, Asking, Request};
 use refusal::{Refusal, told, told_into};
 use time::Time;
 
@@ -17,16 +17,15 @@ use time::Time;
 fn called(
     memory: &mut LentMut,
     events: &mut [u64],
-    request: Request,
-    time: Time,
+    asking: Asking,
     count: &mut u64,
 ) -> Result<Answer, Refusal>
     ensures same { SameLent memory.old memory.new }
-    ensures left { LeavesLent (outcome request time events.old (memory_at memory.old)) (told result) count.new memory.new events.new }
-    ensures value { value_of result ≡ (outcome request time events.old (memory_at memory.old)).value }
-    ensures limit { value_of result < answer_limit (call_of request) }
+    ensures left { LeavesLent (outcome asking.request asking.time events.old (memory_at memory.old)) (told result) count.new memory.new events.new }
+    ensures value { value_of result ≡ (outcome asking.request asking.time events.old (memory_at memory.old)).value }
+    ensures limit { value_of result < answer_limit (call_of asking.request) }
 {
-    let outcome = ask(memory, events, request, time);
+    let outcome = ask(memory, events, asking);
     *count = outcome.unwrap_or_default().count as u64;
     outcome
 }
@@ -54,8 +53,10 @@ pub extern "C" fn flash_write_register(
     told(called(
         &mut memory,
         events,
-        Request::WriteRegister(address, value),
-        Time(seconds, fraction),
+        Asking {
+            request: Request::WriteRegister(address, value),
+            time: Time(seconds, fraction),
+        },
         count,
     ))
 }
@@ -83,8 +84,10 @@ pub extern "C" fn flash_write8(
     told(called(
         &mut memory,
         events,
-        Request::Write8(address, value),
-        Time(seconds, fraction),
+        Asking {
+            request: Request::Write8(address, value),
+            time: Time(seconds, fraction),
+        },
         count,
     ))
 }
@@ -112,8 +115,10 @@ pub extern "C" fn flash_read8(
     let outcome = called(
         &mut memory,
         events,
-        Request::Read8(address),
-        Time(seconds, fraction),
+        Asking {
+            request: Request::Read8(address),
+            time: Time(seconds, fraction),
+        },
         count,
     );
     told_into(outcome.map(|answer| answer.value as u8), value)
@@ -142,8 +147,10 @@ pub extern "C" fn flash_read16(
     let outcome = called(
         &mut memory,
         events,
-        Request::Read16(address),
-        Time(seconds, fraction),
+        Asking {
+            request: Request::Read16(address),
+            time: Time(seconds, fraction),
+        },
         count,
     );
     told_into(outcome.map(|answer| answer.value), value)
@@ -170,8 +177,10 @@ pub extern "C" fn flash_protect(
     told(called(
         &mut memory,
         events,
-        Request::Protect,
-        Time(seconds, fraction),
+        Asking {
+            request: Request::Protect,
+            time: Time(seconds, fraction),
+        },
         count,
     ))
 }
@@ -197,8 +206,10 @@ pub extern "C" fn flash_reset(
     told(called(
         &mut memory,
         events,
-        Request::Reset,
-        Time(seconds, fraction),
+        Asking {
+            request: Request::Reset,
+            time: Time(seconds, fraction),
+        },
         count,
     ))
 }
@@ -224,8 +235,10 @@ pub extern "C" fn flash_power_off(
     told(called(
         &mut memory,
         events,
-        Request::PowerOff,
-        Time(seconds, fraction),
+        Asking {
+            request: Request::PowerOff,
+            time: Time(seconds, fraction),
+        },
         count,
     ))
 }
@@ -254,8 +267,10 @@ pub extern "C" fn flash_environment(
     told(called(
         &mut memory,
         events,
-        Request::Environment(mode, module, oscillator),
-        Time(seconds, fraction),
+        Asking {
+            request: Request::Environment(mode, module, oscillator),
+            time: Time(seconds, fraction),
+        },
         count,
     ))
 }

@@ -4,7 +4,7 @@ ghost use Rattle.refusal.specs.Refusal.{told};
 ghost use Rattle.lent.specs.Memory.{sizes_misfit, past_end, last_second, time_refusal, too_few_words};
 ghost use Rattle.lent.specs.Asked.{call_of, misplaced, call_refusal};
 
-use crate::Request;
+use crate::{Asking, Request};
 use calling::settles;
 use cell::{CELLS, FLASH_SIZE, PAGE};
 use coding::state::mode_of;
@@ -93,13 +93,13 @@ pub fn in_time(flash: &Flash, time: Time) -> Result<Accepted, Refusal>
 #[tactic(auto, unfolding(crate::specs::Memory::time_refusal, crate::specs::Asked::call_refusal))]
 pub fn call_refusal(
     flash: Flash,
-    request: Request,
-    time: Time,
+    asking: Asking,
     words: usize,
 ) -> Result<Accepted, Refusal>
-    ensures told { told result ≡ call_refusal request time words flash }
-    ensures asked { IfOk result (λ now. now.time ≡ time) }
+    ensures told { told result ≡ call_refusal asking.request asking.time words flash }
+    ensures asked { IfOk result (λ now. now.time ≡ asking.time) }
 {
+    let Asking { request, time } = asking;
     if misplaced(request) {
         return Err(Refusal::Place);
     }

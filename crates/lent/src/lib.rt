@@ -10,6 +10,8 @@ pub mod opening;
 // What a call that is not refused answers.
 pub use flash::Answer;
 
+use time::Time;
+
 // The calls of the ledger as a host asks for them, with their arguments but the time: a mode is a number here, and may be none. One generic
 // enum for these and `registers::Call` would be no plainer: each definition over a call would name the mode's type.
 #[derive(Clone, Copy, Debug, PartialEq, Eq)]
@@ -22,4 +24,11 @@ pub enum Request {
     Reset,
     PowerOff,
     Environment(u8, bool, bool),
+}
+
+// What a call asks for, and when.
+#[derive(Clone, Copy, Debug, PartialEq, Eq)]
+pub struct Asking {
+    pub request: Request,
+    pub time: Time,
 }

@@ -1,5 +1,5 @@
 -- A light call leaves the rest of a replay to the state with new settings, whatever memory is lent. Assumes nothing.
-use mathlib.Core.Path.{◌≡◌, refl, sym}
+use mathlib.Core.Path.{◌≡◌, refl}
 use mathlib.Core.Bool.{true, false}
 use mathlib.Core.List.{List}
 use Prim.Native.Nat.{ℕ, ◌+◌, ◌*◌, ◌/◌, ◌^◌, ◌<◌}
@@ -7,7 +7,6 @@ use native.Mathlib.Omega.{arith}
 use lib.ListN.{length}
 use Rattle.time.specs.declared.Time.{Time}
 use Rattle.cell.specs.Cell.{at}
-use Rattle.std.specs.Prelude.{None}
 use Rattle.registers.specs.Access.{write_register}
 use Rattle.flash.specs.declared.Flash.{Flash}
 use Rattle.lent.specs.declared.Request.TheVariants.{WriteRegister}
@@ -15,15 +14,10 @@ use Rattle.light.specs.declared.Settings.{Settings}
 use Rattle.listing.specs.Calls.{first_in, second_in, request_by, request_in}
 use Rattle.listing.specs.Replaying.{stops}
 use Rattle.listing.specs.Held.{chip, Ready, Called, Onward}
-use Rattle.light.specs.Writes.{settings_of, Changed, lit, may_pulse, is_light, since_after}
+use Rattle.light.specs.Writes.{Changed, lit, may_pulse, is_light, since_after}
 use Rattle.listing.proofs.Holding.{call-done}
 use Rattle.light.proofs.Lights.{closed-pulse, Says, light-says, light-performed, light-accepted}
 use Rattle.listing.proofs.Steps.{step-on}
-
--- the settings of a state with nothing pending are in it
-pub lit-start : (f : Flash) → f.registers.verify_pending ≡ None → lit f (settings_of f.registers) f.pulse_since ≡ f
-lit-start f e =
-    λ i. record { registers = record { control = f.registers.control; error = f.registers.error; erase = f.registers.erase; enabled = f.registers.enabled; power_down_disabled = f.registers.power_down_disabled; latch = f.registers.latch; page = f.registers.page; supply = f.registers.supply; oscillator = f.registers.oscillator; mode = f.registers.mode; «module» = f.registers.«module»; ready = f.registers.ready; swe_ready = f.registers.swe_ready; program_ready = f.registers.program_ready; erase_ready = f.registers.erase_ready; recovery = f.registers.recovery; verify_ready = f.registers.verify_ready; verify_pending = sym e i }; pulse_since = f.pulse_since; sensed = f.sensed; indices = f.indices }
 
 -- a number below the first kind's end is a register write
 is-write : (what : ℕ) → what < 2 ^ 24 → request_in what ≡ WriteRegister (first_in what) (second_in what)

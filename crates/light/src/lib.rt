@@ -12,7 +12,7 @@ use bits::{E, ESU, FENR, P, PSU, SWE, has};
 use control::Supply;
 use flash::Flash;
 use lent::checking::last_second;
-use listing::{KIND, NUMBERS};
+use listing::{FIRST, KIND, NUMBERS};
 use registers::Registers;
 use time::Time;
 use time::accepted::Accepted;
@@ -71,7 +71,7 @@ fn picked(first: bool, a: u64, b: u64) -> u64
 fn since_after(enabled: bool, address: u16, since: Time, now: Time) -> Time
     ensures { result ≡ since_after enabled address since now }
 {
-    let settles = !(address == FENR) & enabled;
+    let settles = (address != FENR) & enabled;
     Time(
         picked(settles, now.0, since.0),
         picked(settles, now.1, since.1),
@@ -109,8 +109,9 @@ fn run_writes(flash: Flash, calls: &[u64], from: usize, end: usize) -> Ahead
                 done: i,
             };
         }
-        let address = (what / 0x100 % 0x1_0000) as u16;
-        let value = (what % 0x100) as u8;
+        // Taken apart here and not by `request_in`: only register writes are light, and the others are told by one comparison.
+        let address = (what / FIRST % 0x1_0000) as u16;
+        let value = (what % FIRST) as u8;
         since = since_after(settings.enabled, address, since, time);
         // A light call is before the last second.
         let now = Accepted { time };

@@ -6,7 +6,7 @@ ghost use Rattle.light.specs.Writes.{settings_of, with_settings, Changed};
 
 use crate::Settings;
 use bits::{
-    E, ESU, EV, FENR, FLAG, P, PSU, PV, SWE, control_value, erase_after, erase_value, falls, has,
+    E, EBR1, ESU, EV, FENR, FLAG, FLMCR1, FLPWCR, P, PSU, PV, SWE, control_value, erase_after, erase_value, falls, has,
 };
 use registers::Registers;
 use time::Time;
@@ -106,12 +106,12 @@ fn set_register(settings: Settings, address: u16, value: u8, now: Accepted) -> S
     ensures { Changed (register_set address value now.time) settings result }
 {
     match address {
-        0xf020 => set_control(settings, control_value(value), now),
-        0xf022 => Settings {
+        FLMCR1 => set_control(settings, control_value(value), now),
+        FLPWCR => Settings {
             power_down_disabled: has(value, FLAG),
             ..settings
         },
-        0xf023 => {
+        EBR1 => {
             if has(settings.control, SWE) {
                 return Settings {
                     erase: erase_value(value),

@@ -1,6 +1,6 @@
 -- A replay past one call: a call on the chip that is held ends it or leaves the rest to the chip that the call left. Light calls do the
 -- latter whatever memory is lent, and so do several of them, one after the other. Assumes nothing.
-use mathlib.Core.Path.{◌≡◌, refl, sym, ap, ◌∙◌}
+use mathlib.Core.Path.{◌≡◌, sym, ap, ◌∙◌}
 use mathlib.Core.Bool.{true, false}
 use mathlib.Core.List.{List}
 use Prim.Native.Nat.{ℕ, ◌+◌, ◌≤◌, ◌<◌}
@@ -10,7 +10,7 @@ use Rattle.flash.specs.declared.Flash.{Flash}
 use Rattle.flash.specs.Chip.{Chip}
 use Rattle.lent.specs.Memory.{memory_of}
 use Rattle.lent.specs.Asked.{Outcome}
-use Rattle.listing.specs.declared.Asking.{Asking}
+use Rattle.lent.specs.declared.Asking.{Asking}
 use Rattle.listing.specs.Calls.{call_at, asking_at}
 use Rattle.listing.specs.Replaying.{stops, idle}
 use Rattle.listing.specs.Held.{chip, Ready, leaves, Called, ended, Onward}
@@ -38,9 +38,6 @@ module _ (end i : ℕ) (calls lent : List ℕ) (k k' : Chip) (h : i < end) {even
   step-events e = ap (λ (o : Outcome). o.events) (silent e)
 
 -- ---- light calls
-
-pub onward-none : (end : ℕ) (calls : List ℕ) (i : ℕ) (s : Flash) → Onward end calls i s i s
-onward-none end calls i s = record { later = omega arith; ready = λ array charges h. h; same = λ lent array charges h. refl }
 
 pub onward-more : {end : ℕ} {calls : List ℕ} {i j l : ℕ} {s t u : Flash} → Onward end calls i s j t → Onward end calls j t l u → Onward end calls i s l u
 onward-more a b =

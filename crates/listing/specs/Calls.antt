@@ -7,7 +7,7 @@ use Rattle.layout.specs.Layout.{flag_byte, flag_of}
 use Rattle.lent.specs.declared.Request.{Request}
 use Rattle.lent.specs.declared.Request.TheVariants.{WriteRegister, Write8, Read8, Read16, Protect, Reset, PowerOff, Environment}
 use Rattle.ledger.specs.Lists.{Asked}
-use Rattle.listing.specs.declared.Asking.{Asking}
+use Rattle.lent.specs.declared.Asking.{Asking}
 
 -- ---- reading
 

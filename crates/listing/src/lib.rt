@@ -8,19 +8,14 @@ ghost use Rattle.layout.specs.Whole.{TimeFits};
 ghost use Rattle.ledger.specs.Lists.{Numbers};
 ghost use Rattle.listing.specs.Calls.{request_by, request_in, asking_at, packed, word_of};
 
+pub use lent::Asking;
+
 use lent::{Answer, Request};
 use refusal::Refusal;
 use time::Time;
 
 // Numbers of a call in a list: what it asks for, seconds, fraction.
 pub const NUMBERS: usize = 3;
-
-// What a call asks for, and when.
-#[derive(Clone, Copy, Debug, PartialEq, Eq)]
-pub struct Asking {
-    pub request: Request,
-    pub time: Time,
-}
 
 // The first call of a list that is not done, and the outcome of the last one that is.
 #[derive(Clone, Copy, Debug, PartialEq, Eq)]
@@ -32,7 +27,7 @@ pub struct Replayed {
 // The values of a kind and of a first argument in a call's number.
 pub const KIND: u64 = 0x100_0000;
 
-const FIRST: u64 = 0x100;
+pub const FIRST: u64 = 0x100;
 
 #[tactic(auto, unfolding(crate::specs::Calls::request_by))]
 fn request_by(kind: u64, first: u16, second: u8) -> Request

@@ -12,12 +12,11 @@ ghost use Rattle.listing.specs.Held.{chip, Ready, leaves, Called, ended};
 
 use flash::Flash;
 use lent::checking::{call_of, call_refusal};
-use lent::{Answer, Request};
+use lent::{Answer, Asking, Request};
 use light::run_light;
-use listing::{Asking, Replayed, call_at};
+use listing::{Replayed, call_at};
 use perform::perform;
 use refusal::Refusal;
-use time::Time;
 
 fn reads(request: Request) -> bool
     ensures { result ≡ reads request }
@@ -41,14 +40,13 @@ fn call_held(
     array: &mut [u8],
     charges: &mut [u64],
     events: &mut [u64],
-    request: Request,
-    time: Time,
+    asking: Asking,
 ) -> Result<Answer, Refusal>
-    requires { Ready (chip flash.old array.old charges.old) × Numbers request × TimeFits time }
-    ensures { Called request time events.old (chip flash.old array.old charges.old) (chip flash.new array.new charges.new) events.new (told result) (value_of result) (count_of result) }
+    requires { Ready (chip flash.old array.old charges.old) × Numbers asking.request × TimeFits asking.time }
+    ensures { Called asking.request asking.time events.old (chip flash.old array.old charges.old) (chip flash.new array.new charges.new) events.new (told result) (value_of result) (count_of result) }
 {
-    let now = call_refusal(*flash, request, time, events.len())?;
-    let done = perform(*flash, array, charges, events, call_of(request), now);
+    let now = call_refusal(*flash, asking, events.len())?;
+    let done = perform(*flash, array, charges, events, call_of(asking.request), now);
     *flash = done.flash;
     Ok(done.answer)
 }
@@ -78,10 +76,10 @@ pub fn run(
                 last: Ok(Answer::default()),
             };
         }
-        let Asking { request, time } = call_at(calls, i);
-        let last = call_held(flash, array, charges, events, request, time);
+        let asking = call_at(calls, i);
+        let last = call_held(flash, array, charges, events, asking);
         i += 1;
-        if stops(request, last) {
+        if stops(asking.request, last) {
             return Replayed { done: i, last };
         }
     }

@@ -17,7 +17,7 @@ use Rattle.lent.specs.declared.Request.TheVariants.{WriteRegister, Write8, Read8
 use Rattle.lent.specs.Memory.{Memory}
 use Rattle.lent.specs.Asked.{Outcome, outcome}
 use Rattle.ledger.specs.Lists.{Asked}
-use Rattle.listing.specs.declared.Asking.{Asking}
+use Rattle.lent.specs.declared.Asking.{Asking}
 use Rattle.listing.specs.Calls.{call_at, asking_at}
 use Rattle.listing.specs.Replaying.{stops, reads, idle, asks_after, last_of}
 use Rattle.listing.proofs.Going.{unsaid, stopped}

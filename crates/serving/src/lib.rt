@@ -8,9 +8,9 @@ ghost use Rattle.serving.specs.Noting.{passed, noted_at_once};
 ghost use Rattle.serving.specs.Serving.{Notes, Serves};
 
 use course::{Complaint, Noted, Ongoing, complained, with_calls};
-use lent::Answer;
 use lent::memory::LentMut;
-use listing::{Asking, Replayed, call_at};
+use lent::{Answer, Asking};
+use listing::{Replayed, call_at};
 use refusal::Refusal;
 use replay::replay;
 use slices::first;

@@ -2,7 +2,7 @@
 use mathlib.Core.List.{List}
 use mathlib.Core.Path.{◌≡◌, ap, ◌∙◌, sym}
 use Prim.Native.Nat.{ℕ}
-use Rattle.listing.specs.declared.Asking.{Asking}
+use Rattle.lent.specs.declared.Asking.{Asking}
 use Rattle.course.specs.declared.Complaint.{Complaint}
 use Rattle.course.specs.Desk.{Desk, after_saying}
 use Rattle.course.specs.Demand.{Booking}

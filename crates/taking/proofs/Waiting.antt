@@ -15,7 +15,7 @@ use Rattle.time.specs.declared.Time.{Time}
 use Rattle.grammar.specs.declared.Line.{Line}
 use Rattle.grammar.specs.declared.Line.TheVariants.{Nothing, Call, Look, Wrong}
 use Rattle.grammar.specs.Grammar.{line_of}
-use Rattle.listing.specs.declared.Asking.{Asking}
+use Rattle.lent.specs.declared.Asking.{Asking}
 use Rattle.listing.specs.Calls.{call_at, asking}
 use Rattle.history.specs.History.{calls_of, calls_in, Waiting, waits, taken, taken_all}
 use Rattle.history.specs.Claim.{read_from}

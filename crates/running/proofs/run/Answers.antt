@@ -11,8 +11,8 @@ returns-then-end-i c =
 
 pub returns-then-stops : goal.returns-then-stops
 returns-then-stops c =
-    gone-stop (gone-light c.loop-i.invariant c.run_light-ahead.ensures) (omega arith) c.call_at-request.ensures.is c.call_held-last.ensures (sym c.if-stops.true ∙ c.stops.ensures)
+    gone-stop (gone-light c.loop-i.invariant c.run_light-ahead.ensures) (omega arith) c.call_at-asking.ensures.is c.call_held-last.ensures (sym c.if-stops.true ∙ c.stops.ensures)
 
 pub loop-i-preserved : goal.loop-i-preserved
 loop-i-preserved c =
-    gone-on (gone-light c.loop-i.invariant c.run_light-ahead.ensures) (omega arith) c.call_at-request.ensures.is c.call_held-last.ensures (sym c.if-stops.false ∙ c.stops.ensures)
+    gone-on (gone-light c.loop-i.invariant c.run_light-ahead.ensures) (omega arith) c.call_at-asking.ensures.is c.call_held-last.ensures (sym c.if-stops.false ∙ c.stops.ensures)
