@@ -5,7 +5,10 @@ ghost use Rattle.std.specs.Prelude.{◌≡◌};
 ghost use Rattle.control.specs.Bits.{control_value};
 ghost use Rattle.registers.specs.Access.{register, control_set, register_set, write_register};
 
-use bits::{EBR1, ESU, FENR, FLAG, FLMCR1, FLMCR2, FLPWCR, PSU, SWE, control_value, erase_after, erase_value, falls, flag, has};
+use bits::{
+    EBR1, ESU, FENR, FLAG, FLMCR1, FLMCR2, FLPWCR, PSU, SWE, control_value, erase_after,
+    erase_value, falls, flag, has,
+};
 use control::verify::pending_after;
 use registers::Registers;
 use time::accepted::Accepted;

@@ -15,11 +15,7 @@ use perform::perform;
 use refusal::Refusal;
 
 // Any call: its answer, or why it is refused.
-pub fn ask(
-    memory: &mut LentMut,
-    events: &mut [u64],
-    asking: Asking,
-) -> Result<Answer, Refusal>
+pub fn ask(memory: &mut LentMut, events: &mut [u64], asking: Asking) -> Result<Answer, Refusal>
     ensures same { SameLent memory.old memory.new }
     ensures left { LeavesLent (outcome asking.request asking.time events.old (memory_at memory.old)) (told result) (count_of result) memory.new events.new }
     ensures value { value_of result ≡ (outcome asking.request asking.time events.old (memory_at memory.old)).value }

@@ -55,7 +55,7 @@ pub fn settles(registers: Registers, call: Call, now: Time) -> bool
     ensures { result ≡ settles call now registers }
 {
     match call {
-        Call::WriteRegister(a, _) => !(a == FENR) & registers.enabled,
+        Call::WriteRegister(a, _) => (a != FENR) & registers.enabled,
         Call::Write8(_, _) | Call::Reset | Call::PowerOff => true,
         Call::Read8(_) | Call::Read16(_) => !registers.normal(now),
         Call::Protect => registers.pulse().is_some(),

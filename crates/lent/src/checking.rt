@@ -19,7 +19,7 @@ use time::accepted::Accepted;
 pub fn sizes_misfit(record: usize, array: usize, charges: usize) -> bool
     ensures { result ≡ sizes_misfit «record» array charges }
 {
-    !(record == RECORD_LEN) | !(array == FLASH_SIZE) | !(charges == CELLS)
+    (record != RECORD_LEN) | (array != FLASH_SIZE) | (charges != CELLS)
 }
 
 pub fn call_of(request: Request) -> Call
@@ -91,11 +91,7 @@ pub fn in_time(flash: &Flash, time: Time) -> Result<Accepted, Refusal>
 
 // Whether a call on a state that was read is refused, by the lines from 4 on.
 #[tactic(auto, unfolding(crate::specs::Memory::time_refusal, crate::specs::Asked::call_refusal))]
-pub fn call_refusal(
-    flash: Flash,
-    asking: Asking,
-    words: usize,
-) -> Result<Accepted, Refusal>
+pub fn call_refusal(flash: Flash, asking: Asking, words: usize) -> Result<Accepted, Refusal>
     ensures told { told result ≡ call_refusal asking.request asking.time words flash }
     ensures asked { IfOk result (λ now. now.time ≡ asking.time) }
 {

@@ -9,7 +9,6 @@ pub mod opening;
 
 // What a call that is not refused answers.
 pub use flash::Answer;
-
 use time::Time;
 
 // The calls of the ledger as a host asks for them, with their arguments but the time: a mode is a number here, and may be none. One generic

@@ -24,6 +24,7 @@ fn fresh() -> Flash
     }
 }
 
+// Others may name it, so it stays beside `copy_from_slice`, which it is.
 pub fn copy(from: &[u8], to: &mut [u8])
     requires { length from.now ≡ length to.old }
     ensures { to.new ≡ from.now }
@@ -48,6 +49,6 @@ pub fn make(
         return Err(Refusal::Memory);
     }
     write(record, fresh());
-    copy(firmware, array);
+    array.copy_from_slice(firmware);
     Ok(())
 }

@@ -6,7 +6,8 @@ ghost use Rattle.light.specs.Writes.{settings_of, with_settings, Changed};
 
 use crate::Settings;
 use bits::{
-    E, EBR1, ESU, EV, FENR, FLAG, FLMCR1, FLPWCR, P, PSU, PV, SWE, control_value, erase_after, erase_value, falls, has,
+    E, EBR1, ESU, EV, FENR, FLAG, FLMCR1, FLPWCR, P, PSU, PV, SWE, control_value, erase_after,
+    erase_value, falls, has,
 };
 use registers::Registers;
 use time::Time;

@@ -9,7 +9,6 @@ ghost use Rattle.ledger.specs.Lists.{Numbers};
 ghost use Rattle.listing.specs.Calls.{request_by, request_in, asking_at, packed, word_of};
 
 pub use lent::Asking;
-
 use lent::{Answer, Request};
 use refusal::Refusal;
 use time::Time;

@@ -29,7 +29,7 @@ fn stops(request: Request, outcome: Result<Answer, Refusal>) -> bool
     ensures { result ≡ stops request (told outcome) (count_of outcome) }
 {
     match outcome {
-        Ok(answer) => !(answer.count == 0) | reads(request),
+        Ok(answer) => (answer.count != 0) | reads(request),
         Err(_) => true,
     }
 }
