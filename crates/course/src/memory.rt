@@ -7,8 +7,8 @@ pub use listing::NUMBERS;
 // So many calls may wait, each with three numbers: what, seconds, fraction.
 pub const ROOM: usize = 1024;
 
-// One byte more than the longest snapshot, every page opened and a sense pending, so that a longer file shows.
-pub const BUFFER: usize = 3195927;
+// One byte more than the longest snapshot, so that a longer file shows.
+pub const BUFFER: usize = snapshot::LONGEST + 1;
 
 // The longest line.
 pub const LONGEST: usize = 1000;

@@ -56,11 +56,6 @@ part-below n bs = by (number_in 10 bs) refl
     by (Err number.TooLarge) e j = let z : ◌≡◌ {A = ℕ} 0 1 = cc in omega arith
     by (Err number.NotDigits) e j = let z : ◌≡◌ {A = ℕ} 0 1 = cc in omega arith
 
--- the test of the code is that of the definition
-pub is-exact-of : (fraction : ℕ) (d : Duration) (p : Bool) → d ≡ micros (fraction / 18446744073709) → (ltb (fraction / 18446744073709) 1000000 && eqb d.1 fraction) ≡ p → cond p (Some (fraction / 18446744073709)) None ≡ exact_of fraction
-unfolding exact_of
-is-exact-of fraction d p e t = rw (sym e, t)
-
 -- a fraction is told as n microseconds if and only if it is their fraction
 module _ (fraction n : ℕ) where
   pub exact-sound : exact_of fraction ≡ Some n → (n < 1000000) × ((micros n).1 ≡ fraction)

@@ -7,8 +7,7 @@ ghost use Rattle.moments.specs.Moments.{part_of, seconds, exactly, with_decimals
 use byte_search::find;
 use digits::{NoNumber, decimal};
 use reason::Reason;
-pub use time::MICROSECOND;
-use time::{Duration, MICROS, Time};
+use time::{Duration, MICROS, MICROSECOND, Time};
 
 // A part of a word, which is a decimal number.
 fn part_in(word: &[u8]) -> Result<u64, Reason>

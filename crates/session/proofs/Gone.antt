@@ -24,7 +24,7 @@ use Rattle.steps.proofs.Lines.{place-sound}
 use Rattle.course.specs.declared.memory.Bench.{Bench}
 use Rattle.course.specs.Views.{SameBench}
 use Rattle.session.specs.declared.run.Run.{Run}
-use Rattle.session.specs.Going.{Standing, read_on, Goes, reader_in, ReadWhole, Begins, WithPiece, with_failure, Moves, CanStep}
+use Rattle.session.specs.Going.{Standing, read_on, Goes, reader_in, ReadWhole, Begins, WithPiece, with_failure, Moves}
 
 -- ---- one after the other
 
@@ -138,9 +138,6 @@ pub no-piece : (r : Run) (b : Backlog) → Moves r b (with_failure r) b
 no-piece r b = record { goes = λ w m events. goes-nowhere w r.more (reader_in w r b m events) }
 
 -- ---- turns
-
-pub running-steps : (r : Run) → r.place.running ≡ true → CanStep r true
-running-steps r h = record { can = λ e reads. absurd (true≢false (sym h ∙ reads)); stays = λ e. absurd (true≢false e) }
 
 pub same-bench : (x : Bench) → SameBench x x
 same-bench x = record { same_lent = record { same_record = refl; same_array = refl; same_charges = refl }; same_events = refl; same_out = refl }

@@ -6,6 +6,7 @@ use host::calls::{
     flash_environment, flash_power_off, flash_protect, flash_read8, flash_read16, flash_reset,
     flash_write_register, flash_write8,
 };
+use slices::first;
 
 // A count that no call gives, so that one which is not written shows.
 const UNWRITTEN: u64 = 65536;
@@ -31,11 +32,11 @@ macro_rules! run {
 
 // Whether an answer, its event words included, is the recorded one.
 fn told(memory: &Memory, row: &Row, number: u32, count: u64, value: u16) -> bool {
-    let end = usize::from(row.event_count()).min(memory.events.len());
+    let events = first(&memory.events, usize::from(row.event_count()));
     number == 0
         && count == u64::from(row.event_count())
         && value == row.answer()
-        && of_words(&memory.table, &memory.events[..end]) == row.event_sum()
+        && of_words(&memory.table, events) == row.event_sum()
 }
 
 // The call that the row's letter names.

@@ -6,6 +6,7 @@ use crate::sum::of_bytes;
 use bits::{EBR1, FENR, FLMCR1, FLMCR2, FLPWCR};
 use host::looks::{flash_image, flash_normal, flash_register};
 use host::snapshots::{flash_validate, flash_write_snapshot};
+use slices::first;
 
 pub fn register_same(memory: &Memory, address: u16, recorded: u8) -> bool {
     shows(
@@ -61,10 +62,10 @@ fn snapshot_same(memory: &mut Memory, row: &Row) -> bool {
         &mut length,
     );
     let recorded = row.snapshot_length();
-    let end = (recorded as usize).min(memory.buffer.len());
+    let written = first(&memory.buffer, recorded as usize);
     number == 0
         && length == u64::from(recorded)
-        && of_bytes(&memory.table, &memory.buffer[..end]) == row.snapshot_sum()
+        && of_bytes(&memory.table, written) == row.snapshot_sum()
 }
 
 // What takes no time to see: registers and snapshot. The snapshot stands in the buffer afterwards.

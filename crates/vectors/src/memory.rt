@@ -2,9 +2,7 @@
 use crate::sum::Table;
 use cell::{CELLS, FLASH_SIZE};
 use layout::{EVENT_WORDS, RECORD_LEN};
-
-// The longest snapshot: every page opened, a sense pending.
-pub const LONGEST: usize = 3195926;
+use snapshot::LONGEST;
 
 // Record, array, charge store, event words, image, and the buffer of snapshots; and the table of sums.
 #[derive(Drop)]
