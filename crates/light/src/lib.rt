@@ -98,9 +98,7 @@ fn run_writes(flash: Flash, calls: &[u64], from: usize, end: usize) -> Ahead
     let may = may_pulse(flash.registers);
     let mut settings = settings_of(flash.registers);
     let mut since = flash.pulse_since;
-    // No for: where the loop has come to is part of the answer, also where it begins past the end.
-    let mut i: usize = from;
-    while i < end {
+    for i in from..end {
         let what = calls[NUMBERS * i];
         let time = Time(calls[NUMBERS * i + 1], calls[NUMBERS * i + 2]);
         if !is_light(may, settings.control, since, what, time) {
@@ -116,11 +114,10 @@ fn run_writes(flash: Flash, calls: &[u64], from: usize, end: usize) -> Ahead
         // A light call is before the last second.
         let now = Accepted { time };
         settings = write(settings, address, value, now);
-        i += 1;
     }
     Ahead {
         flash: lit(flash, settings, since),
-        done: i,
+        done: from.max(end),
     }
 }
 

@@ -3,7 +3,8 @@ use Rattle.listing.proofs.Steps.{onward-more}
 use Rattle.light.proofs.Onward.{onward-light}
 use Rattle.light.proofs.Lights.{light-says}
 use borrow.Author.Tests.{leb-false}
-use mathlib.Core.Path.{sym, ◌∙◌}
+use mathlib.Core.Path.{◌≡◌, sym, ◌∙◌}
+use native.Mathlib.Omega.{arith}
 use Prim.Native.Nat.{◌-◌, ◌^◌}
 use Rattle.light.proofs.run_writes.Goals as goal
 
@@ -13,4 +14,9 @@ invariant_of-now c =
 
 pub loop-i-preserved : goal.loop-i-preserved
 loop-i-preserved c =
-    onward-more c.loop-i.invariant (onward-light _ _ _ c.args.flash _ _ _ _ c.loop-i-test.true (λ n. (c.shared_slice_known-1.given n).fits) (rw c.may_pulse-may.ensures at (sym c.is_light.ensures ∙ c.if-not-is_light.false)) c.write-settings.ensures c.since_after-since.ensures)
+    (onward-more c.loop-i.invariant.0 (onward-light _ _ _ c.args.flash _ _ _ _ c.loop-i-test.true (λ n. (c.shared_slice_known-1.given n).fits) (rw c.may_pulse-may.ensures at (sym c.is_light.ensures ∙ c.if-not-is_light.false)) c.write-settings.ensures c.since_after-since.ensures), omega arith)
+
+pub returns : goal.returns
+returns c =
+    let e : c.max.result ≡ c.loop-i.i = omega (arith, c.max.ensures, c.loop-i.invariant.0.later, c.loop-i.invariant.1, c.loop-i-test.false) in
+    rw (e, c.lit-2.ensures) c.loop-i.invariant.0
