@@ -4,6 +4,7 @@ use crate::memory::Memory;
 use crate::row::Row;
 use host::looks::flash_new;
 use host::snapshots::flash_read_snapshot;
+use slices::first;
 
 // Firmware by the row's formula: each byte is the third of a number, and the next number is this one times a factor plus a step.
 fn fill(firmware: &mut [u8], row: &Row) {
@@ -29,9 +30,8 @@ pub fn new(memory: &mut Memory, row: &Row) -> bool {
 
 // A state from the buffer's first bytes, as many as it has of them.
 pub fn restore(memory: &mut Memory, row: &Row, length: u32) -> bool {
-    let end = (length as usize).min(memory.buffer.len());
     let number = flash_read_snapshot(
-        &memory.buffer[..end],
+        first(&memory.buffer, length as usize),
         &mut memory.record,
         &mut memory.array,
         &mut memory.charges,
