@@ -1,16 +1,15 @@
--- A loop that replaces the elements of a list one after the other: the list after n turns, and that after all of them it is the map. Where
--- the loop goes byte by byte with a loop over eight cells inside, what the inner one knows, and which bit a cell has.
+-- A loop that replaces the elements of a list one after the other: the list after n turns, and that after all of them it is the map.
 -- Assumes nothing.
 use mathlib.Core.Path.{◌≡◌, refl, sym, ◌∙◌}
 use mathlib.Core.List.{List}
-use Prim.Native.Nat.{ℕ, zero, suc, ◌+◌, ◌*◌, ◌/◌, ◌%◌, ◌<◌, ◌≤◌}
+use Prim.Native.Nat.{ℕ, zero, suc, ◌+◌, ◌<◌, ◌≤◌}
 use native.Mathlib.Nat.{not-suc-le-zero}
 use native.Mathlib.Numerals.{add-one}
 use native.Mathlib.Omega.{arith}
 use native.Mathlib.Decide.{ℕ_discrete}
 use lib.ListN.{length, get_or, set, length-set}
 use lib.Seq.{get_or-set_same, get_or-set_other, ext_get_or}
-use Rattle.cell.specs.Cell.{mapi, at, bit, page_bit}
+use Rattle.cell.specs.Cell.{mapi}
 use Rattle.cell.proofs.Maps.{length-mapi, get_or-mapi}
 
 abbrev pub partly : (ℕ → ℕ → ℕ) → ℕ → List ℕ → List ℕ
@@ -45,15 +44,3 @@ partly-all f xs n e =
     ext_get_or 0 (partly f n xs) (mapi f 0 xs) (length-partly f n xs ∙ sym (length-mapi f 0 xs))
     (λ i h. let l = length-partly f n xs in
     partly-below f n xs i (omega arith) (omega arith) ∙ sym (get_or-mapi f xs i (omega arith)))
-
--- In a loop inside another: a list that became ys in n turns has become zs in m turns.
-abbrev pub Further : (ℕ → ℕ → ℕ) → ℕ → ℕ → List ℕ → List ℕ → Type 0
-Further f n m ys zs = (xs : List ℕ) → ys ≡ partly f n xs → zs ≡ partly f m xs
-
--- the bit of the cell k of the byte i
-pub cell-bit : (bytes : List ℕ) (i k : ℕ) → k < 8 → page_bit bytes (8 * i + k) ≡ bit (at bytes i) k
-unfolding page_bit
-cell-bit bytes i k h =
-    let d : (8 * i + k) / 8 ≡ i = omega arith in
-    let m : (8 * i + k) % 8 ≡ k = omega arith in
-    rw (d, m)

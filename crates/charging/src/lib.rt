@@ -2,7 +2,7 @@
 #![tactic(auto)]
 
 ghost use Rattle.std.specs.Prelude.{◌≡◌, ◌-◌, ◌*◌, ◌^◌, ◌<◌, min, length};
-ghost use Rattle.cell.specs.Cell.{bit, rate, moved, exposed, first_charge, opened_page, opened_slot, charged_page, charged_slot, page_cells, array_cells, pages};
+ghost use Rattle.cell.specs.Cell.{bit, page_bit, rate, moved, exposed, first_charge, opened_page, opened_slot, charged_page, charged_slot, page_cells, array_cells, pages};
 ghost use Rattle.time.specs.Raw.{span};
 
 use cell::{Direction, FULL, PAGE, PAGE_CELLS};
@@ -66,6 +66,14 @@ pub fn bit(b: u8, k: usize) -> u8
     (b >> k) % 2
 }
 
+// The bit of the cell j of a page, from a byte for every eight cells.
+pub fn page_bit(bytes: &[u8; PAGE], j: usize) -> u8
+    requires { j < page_cells }
+    ensures { result ≡ page_bit bytes.now j }
+{
+    bit(bytes[j / 8], j % 8)
+}
+
 // The charge of a cell that no pulse has reached yet, from its stored bit.
 pub fn first_charge(stored: u8) -> u64
     ensures { result ≡ first_charge stored }
@@ -73,33 +81,25 @@ pub fn first_charge(stored: u8) -> u64
     if stored == 1 { 0 } else { FULL }
 }
 
-// A page's first charges, from its stored bytes: each is read once for its eight cells.
+// A page's first charges, from its stored bytes.
 // A page's cells are a slice: `as_chunks_mut` tells nothing of what is written back, and `first_chunk_mut` has a `None` that never comes.
 fn open(cells: &mut [u64], bytes: &[u8; PAGE])
     requires { length cells.old ≡ page_cells }
     ensures { cells.new ≡ opened_page bytes.now cells.old }
 {
-    for i in 0..PAGE {
-        let stored = bytes[i];
-        for k in 0..8 {
-            let j = 8 * i + k;
-            cells[j] = first_charge(bit(stored, k));
-        }
+    for (j, q) in cells.iter_mut().enumerate() {
+        *q = first_charge(page_bit(bytes, j));
     }
 }
 
-// A page's charges after an exposure. Each byte of the latch is read once for its eight cells.
+// A page's charges after an exposure.
 fn charge(cells: &mut [u64], latch: &[u8; PAGE], direction: Direction, exposure: Duration)
     requires { length cells.old ≡ page_cells }
     ensures { cells.new ≡ charged_page direction latch.now (span exposure) cells.old }
 {
     let by = amount(direction, exposure);
-    for i in 0..PAGE {
-        let latched = latch[i];
-        for k in 0..8 {
-            let j = 8 * i + k;
-            cells[j] = moved(direction, bit(latched, k), by, cells[j]);
-        }
+    for (j, q) in cells.iter_mut().enumerate() {
+        *q = moved(direction, page_bit(latch, j), by, *q);
     }
 }
 

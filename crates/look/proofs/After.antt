@@ -1,6 +1,6 @@
 -- What an exposure leaves, cell by cell and byte by byte: a cell moves and a byte is sensed anew where it covers the page.
 -- Assumes nothing.
-use mathlib.Core.Path.{◌≡◌, refl, ap, sym, ◌∙◌}
+use mathlib.Core.Path.{◌≡◌, refl, sym, ◌∙◌}
 use mathlib.Core.Bool.{true, false}
 use mathlib.Core.List.{List}
 use Prim.Native.Nat.{ℕ, zero, suc, ◌+◌, ◌*◌, ◌/◌, ◌<◌, ◌≤◌}
@@ -11,9 +11,7 @@ use lib.Seq.{get_or-take, get_or-drop, ext_get_or}
 use Rattle.std.specs.Prelude.{Option, Some, None, IfSome}
 use Rattle.time.specs.Raw.{span}
 use Rattle.cell.specs.declared.Sense.TheVariants.{Normal}
-use Rattle.cell.specs.Cell.{at, mapi, tabulate, sensed_byte}
-use Rattle.cell.proofs.Maps.{get_or-mapi}
-use Rattle.cell.proofs.Table.{entry}
+use Rattle.cell.specs.Cell.{at, sensed_byte}
 use Rattle.registers.specs.declared.Pulse.{Pulse}
 use Rattle.settle.specs.declared.cells.CellsRef.{CellsRef}
 use Rattle.settle.specs.declared.exposure.Exposure.{Exposure}
@@ -55,25 +53,14 @@ module _ (e : Exposure) (cells : CellsRef) where
   byte-else a n = sym (look-kept e.pulse e.latch.now (span e.length) (cells_in cells) a (reached (a / 128) ∙ n))
 
   -- from its cells, charged
-  pub byte-here : (a : ℕ) (old moved : List ℕ) → a < 49152 → covers e.pulse (a / 128) ≡ true
-      → old ≡ tabulate (λ k. cell_at (cells_in cells) (8 * a + k)) 8
-      → moved ≡ mapi (λ k q. charged e.pulse e.latch.now (span e.length) (8 * a + k) q) 0 old
+  pub byte-here : (a : ℕ) (moved : List ℕ) → a < 49152 → covers e.pulse (a / 128) ≡ true
+      → ((k : ℕ) → k < 8 → at moved k ≡ charged e.pulse e.latch.now (span e.length) (8 * a + k) (cell_at (cells_in cells) (8 * a + k)))
       → sensed_byte Normal a (at moved) ≡ at (after e cells).array a
-  byte-here a old moved h n d m =
-      look-byte e.pulse e.latch.now (span e.length) (cells_in cells) a (at moved) (rw cells.array_long h) (reached (a / 128) ∙ n) each
-    where
-      g : ℕ → ℕ
-      g k = cell_at (cells_in cells) (8 * a + k)
-
-      f : ℕ → ℕ → ℕ
-      f k q = charged e.pulse e.latch.now (span e.length) (8 * a + k) q
-
-      each : (k : ℕ) → k < 8 → at moved k ≡ exposed_by e.pulse e.latch.now (span e.length) (8 * a + k) (g k)
-      each k b =
-          let page : (8 * a + k) / 1024 ≡ a / 128 = omega arith in
-          let moves : exposed_by e.pulse e.latch.now (span e.length) (8 * a + k) (g k) ≡ f k (g k) =
-          exposed-if e.pulse e.latch.now (span e.length) (8 * a + k) (g k) ∙ rw (page, reached (a / 128), n) in
-          rw (m, d, moves) (get_or-mapi f (tabulate g 8) k b ∙ ap (f k) (entry g 8 k b))
+  byte-here a moved h n m =
+      look-byte e.pulse e.latch.now (span e.length) (cells_in cells) a (at moved) (rw cells.array_long h) (reached (a / 128) ∙ n)
+      (λ k b.
+      let page : (8 * a + k) / 1024 ≡ a / 128 = omega arith in
+      m k b ∙ sym (exposed-if e.pulse e.latch.now (span e.length) (8 * a + k) _ ∙ rw (page, reached (a / 128), n)))
 
   pub page-else : (x : ℕ) → covers e.pulse x ≡ false
       → take 128 (drop (x * 128) cells.array.now) ≡ take 128 (drop (x * 128) (after e cells).array)

@@ -15,6 +15,7 @@ use flash::held::Held;
 use sensing::limits::Ceilings;
 use settle::cells::CellsRef;
 use settle::exposure::Exposure;
+use std::array::from_fn;
 use time::Time;
 
 // The byte at an address of the exposed pages: its eight cells are charged and sensed. Here and below an exposure that covers the page is
@@ -23,10 +24,10 @@ fn sensed_after(cells: &CellsRef, exposure: &Exposure, ceilings: &Ceilings, addr
     requires { (ceilings.now.sense ≡ Normal) × (address < array_bytes) × (covers exposure.now.pulse (address / page_bytes) ≡ true) }
     ensures { result ≡ at (after_exposure (Some exposure.now) (cells_in cells.now)).array address }
 {
-    let mut charges = cells.of_byte(address);
-    for k in 0..8 {
-        charges[k] = charged(exposure, 8 * address + k, charges[k]);
-    }
+    let charges = from_fn(|k| {
+        let i = 8 * address + k;
+        charged(exposure, i, cells.charge(i))
+    });
     ceilings.sense_byte(address, &charges)
 }
 

@@ -11,7 +11,7 @@ ghost use Rattle.flash.specs.Views.{chip_of};
 ghost use Rattle.look.specs.Views.{cells_after};
 
 use cell::PAGE_CELLS;
-use charging::{bit, expose};
+use charging::{expose, page_bit};
 use flash::held::Held;
 use settle::cells::CellsRef;
 use settle::exposure::Exposure;
@@ -69,8 +69,7 @@ impl View<'_> {
 pub fn charged(exposure: &Exposure, i: usize, charge: u64) -> u64
     ensures { result ≡ charged exposure.now.pulse exposure.now.latch.now (span exposure.now.length) i charge }
 {
-    let j = i % PAGE_CELLS;
-    let bit = bit(exposure.latch[j / 8], j % 8);
+    let bit = page_bit(exposure.latch, i % PAGE_CELLS);
     expose(exposure.pulse.direction, bit, exposure.length, charge)
 }
 

@@ -1,10 +1,9 @@
 -- `look::looking::charged` meets its contract: the rule of one cell, by its bit of the latch.
 -- Assumes nothing.
 use mathlib.Core.Path.{◌∙◌}
-use Rattle.cell.specs.Cell.{page_bit}
 use Rattle.settle.specs.Settling.{charged}
 use Rattle.look.proofs.looking.charged.Goals as goal
 
 pub returns : goal.returns
-unfolding charged page_bit
-returns c = c.expose.ensures ∙ rw c.bit-bit.ensures
+unfolding charged
+returns c = c.expose.ensures ∙ rw c.page_bit-bit.ensures
