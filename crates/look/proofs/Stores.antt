@@ -1,10 +1,10 @@
 -- A blank page as a list; and the stores of a loop, a byte or a page more at a time. Assumes nothing.
 use mathlib.Core.Path.{◌≡◌, refl, ◌∙◌}
 use mathlib.Core.List.{List, [], ◌∷◌}
-use Prim.Native.Nat.{ℕ, zero, suc, ◌+◌, ◌<◌, ◌≤◌}
+use Prim.Native.Nat.{ℕ, zero, suc, ◌+◌, ◌-◌, ◌<◌, ◌≤◌}
 use native.Mathlib.Numerals.{add-one}
 use native.Mathlib.Omega.{arith}
-use lib.ListN.{length, set, take, drop, length-take, length-drop}
+use lib.ListN.{length, get_or, set, take, drop, length-take, length-drop}
 use lib.Seq.{sets, take-suc, take-add, take-length, get_or-drop}
 use lib.Dec.{eqb}
 use Rattle.std.specs.List.{list_all, range_with_len}
@@ -21,12 +21,15 @@ all-blank-range (suc n) a image = rw (add-one, all-blank-range n (suc a) image)
 
 -- ---- the stores of a loop, one after the other, and of a page after the other; they are those of vs from n on
 
-pub sets-turn : (l vs ys : List ℕ) (n i v : ℕ) → ys ≡ sets l n (take i (drop n vs)) → v ≡ at vs (n + i) → n + i < length vs
-    → set ys (n + i) v ≡ sets l n (take (i + 1) (drop n vs))
-sets-turn l vs ys n i v e d h =
-    let k : i < length (drop n vs) = simp length-drop (omega arith) in
-    let m : n + length (take i (drop n vs)) ≡ n + i = simp (length-take, length-drop) (omega arith) in
-    rw (d, e, add-one i, take-suc (drop n vs) i 0 k, sets-append l n (take i (drop n vs)) (at (drop n vs) i ∷ []), m, get_or-drop n vs i 0)
+pub sets-turn : (l vs ys : List ℕ) (n a v : ℕ) → ys ≡ sets l n (take (a - n) (drop n vs)) → v ≡ at vs a → n ≤ a → a < length vs
+    → set ys a v ≡ sets l n (take (a + 1 - n) (drop n vs))
+sets-turn l vs ys n a v e d g h =
+    let k : a - n < length (drop n vs) = simp length-drop (omega arith) in
+    let m : n + length (take (a - n) (drop n vs)) ≡ a = simp (length-take, length-drop) (omega arith) in
+    let more : a + 1 - n ≡ suc (a - n) = omega arith in
+    let there : n + (a - n) ≡ a = omega arith in
+    let b : get_or (drop n vs) (a - n) 0 ≡ at vs a = get_or-drop n vs (a - n) 0 ∙ rw there in
+    rw (d, e, more, take-suc (drop n vs) (a - n) 0 k, sets-append l n (take (a - n) (drop n vs)) (get_or (drop n vs) (a - n) 0 ∷ []), m, b)
 
 pub sets_more : (l vs ys zs : List ℕ) (n m : ℕ) → ys ≡ sets l 0 (take n vs) → zs ≡ sets ys n (take m (drop n vs)) → n ≤ length vs
     → zs ≡ sets l 0 (take (n + m) vs)

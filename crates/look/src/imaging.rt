@@ -70,8 +70,7 @@ fn write_sensed(
     ensures { out.new ≡ sets out.old (page * page_bytes) (take page_bytes (drop (page * page_bytes) (after_exposure (Some exposure.now) (cells_in cells.now)).array)) }
 {
     let start = page * PAGE;
-    for i in 0..PAGE {
-        let address = start + i;
+    for address in start..start + PAGE {
         out[address] = sensed_after(cells, exposure, ceilings, address);
     }
 }

@@ -1,12 +1,20 @@
--- `look::imaging::write_sensed` meets its contract. The loop's invariant: the first bytes of the image's page are stored, as many as were
--- passed. Assumes nothing.
+-- `look::imaging::write_sensed` meets its contract. The loop's invariant: the bytes of the image's page before the address are stored.
+-- Assumes nothing.
+use mathlib.Core.Path.{◌≡◌}
+use Prim.Native.Nat.{◌*◌, ◌-◌}
 use native.Mathlib.Omega.{arith}
 use Rattle.look.proofs.After.{after-long}
 use Rattle.look.proofs.Stores.{sets-turn}
 use Rattle.look.proofs.imaging.write_sensed.Goals as goal
 
-pub loop-i-preserved : goal.loop-i-preserved
-loop-i-preserved c =
-    let l = c.loop-i in
+pub loop-address-preserved : goal.loop-address-preserved
+loop-address-preserved c =
+    let l = c.loop-address in
     let long = after-long c.args.exposure.now c.args.cells.now in
-    sets-turn _ _ _ _ l.i _ l.invariant c.sensed_after.ensures (omega arith)
+    sets-turn _ _ l.out _ l.address _ l.invariant c.sensed_after.ensures (omega arith) (omega arith)
+
+pub returns : goal.returns
+returns c =
+    let x = c.args in
+    let all : c.loop-address.address - x.page * 128 ≡ 128 = omega arith in
+    rw all at c.loop-address.invariant
