@@ -1,21 +1,17 @@
 // Register writes on the few registers that they can change: access::write_register without the latch, which is long to copy.
 ghost use Rattle.std.specs.Prelude.{◌≡◌};
-ghost use Rattle.control.specs.Waits.{recovery_after};
 ghost use Rattle.registers.specs.Access.{control_set, register_set, write_register};
 ghost use Rattle.light.specs.Writes.{settings_of, with_settings, Changed};
 
 use crate::Settings;
 use bits::{
-    E, EBR1, ESU, EV, FENR, FLAG, FLMCR1, FLPWCR, P, PSU, PV, SWE, control_value, erase_after,
-    erase_value, falls, has,
+    EBR1, ESU, FENR, FLAG, FLMCR1, FLPWCR, PSU, SWE, control_value, erase_after, erase_value, falls,
+    has,
 };
 use registers::Registers;
 use time::Time;
 use time::accepted::Accepted;
-use waits::{
-    ERASE_FALL, ESU_RISE, EV_FALL, PROGRAM_FALL, PSU_RISE, PV_FALL, SWE_FALL, SWE_RISE, raised,
-    renewed, verify_ready_after,
-};
+use waits::{ESU_RISE, PSU_RISE, SWE_RISE, recovery_after, renewed, verify_ready_after};
 
 pub fn settings_of(registers: Registers) -> Settings
     ensures { result ≡ settings_of registers }
@@ -62,28 +58,13 @@ pub fn with_settings(settings: Settings, registers: Registers) -> Registers
     }
 }
 
-// The recovery instant after control goes from `old` to `new`, as `waits::recovery_after` has it. It is written out here, where it is
-// called once, so that the compiler puts it in its place: a call would have the settings in memory.
-#[tactic(auto, unfolding(control::specs::Waits::recovery_after))]
-fn recovery_in(old: u8, new: u8, now: Accepted, t: Time) -> Time
-    ensures { result ≡ recovery_after old new now.time t }
-{
-    let program = falls(P, old, new) | falls(PSU, old, new);
-    let erase = falls(E, old, new) | falls(ESU, old, new);
-    let a = raised(program, PROGRAM_FALL, now, t);
-    let b = raised(erase, ERASE_FALL, now, a);
-    let c = raised(falls(PV, old, new), PV_FALL, now, b);
-    let d = raised(falls(EV, old, new), EV_FALL, now, c);
-    raised(falls(SWE, old, new), SWE_FALL, now, d)
-}
-
 // Control becomes `new`, with all that follows from it.
 #[tactic(auto, unfolding(registers::specs::Access::control_set))]
 fn set_control(settings: Settings, new: u8, now: Accepted) -> Settings
     ensures { Changed (control_set new now.time) settings result }
 {
     let old = settings.control;
-    let recovery = recovery_in(old, new, now, settings.recovery);
+    let recovery = recovery_after(old, new, now, settings.recovery);
     let swe_ready = renewed(falls(SWE, new, old), SWE_RISE, now, settings.swe_ready);
     let program_ready = renewed(falls(PSU, new, old), PSU_RISE, now, settings.program_ready);
     let erase_ready = renewed(falls(ESU, new, old), ESU_RISE, now, settings.erase_ready);

@@ -54,7 +54,8 @@ pub fn renewed(due: bool, n: u64, now: Accepted, t: Time) -> Time
     if due { now.after(n) } else { t }
 }
 
-// The recovery instant after control goes from `old` to `new`.
+// The recovery instant after control goes from `old` to `new`. Inlined: called, a light write (`light`) would have its settings in memory.
+#[inline(always)]
 #[tactic(auto, unfolding(control::specs::Waits::recovery_after))]
 pub fn recovery_after(old: u8, new: u8, now: Accepted, t: Time) -> Time
     ensures { result ≡ recovery_after old new now.time t }
