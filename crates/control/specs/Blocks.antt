@@ -5,7 +5,7 @@ use Rattle.cell.specs.Cell.{page_bytes, pages}
 use Rattle.control.specs.declared.Range.{Range}
 
 -- whether a page lies in a range
-unfoldable pub covers : Range → ℕ → Bool
+abbrev pub covers : Range → ℕ → Bool
 covers range page = leb range.first page && ltb page (range.first + range.pages)
 
 -- the pages from one address to another, the last byte

@@ -46,7 +46,6 @@ impl Range {
     ghost use Rattle.control.specs.Blocks.{covers};
 
     // Whether a page lies in it.
-    #[tactic(auto, unfolding(crate::specs::Blocks::covers))]
     pub fn covers(self, page: usize) -> bool
         ensures { result ≡ covers self page }
     {

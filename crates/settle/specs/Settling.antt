@@ -12,6 +12,7 @@ use Rattle.cell.specs.declared.Sense.TheVariants.{Normal, ProgramVerify, EraseVe
 use Rattle.cell.specs.Cell.{page_bytes, page_cells, mapi, tabulate, sensed_byte, exposed, page_bit}
 use Rattle.control.specs.declared.PendingSense.{PendingSense}
 use Rattle.control.specs.Bits.{EV, low, verifies}
+use Rattle.control.specs.Blocks.{covers as in_range}
 use Rattle.control.specs.Verify.{sense_due}
 use Rattle.registers.specs.declared.Registers.{Registers}
 use Rattle.registers.specs.declared.Pulse.{Pulse}
@@ -26,7 +27,7 @@ exposure p since now = raw now - raw (later since p.ready)
 
 -- whether page x lies in the pulse's range
 unfoldable pub covers : Pulse → ℕ → Bool
-covers p x = leb p.first x && ltb x (p.first + p.pages)
+covers p x = in_range (record { first = p.first; pages = p.pages }) x
 
 -- bytes of the open pulse's range, 0 without one; the page past its end
 abbrev pub range_bytes : Option Pulse → ℕ

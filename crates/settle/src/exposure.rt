@@ -71,7 +71,7 @@ impl Exposure<'_> {
     }
 
     // Whether it reaches a page.
-    #[tactic(auto, unfolding(crate::specs::Settling::covers, control::specs::Blocks::covers))]
+    #[tactic(auto, unfolding(crate::specs::Settling::covers))]
     pub fn covers(&self, page: usize) -> bool
         ensures { result ≡ covers self.now.pulse page }
     {

@@ -13,20 +13,20 @@ use Rattle.std.specs.Prelude.{Option, None, Some, IfSome}
 use Rattle.std.specs.Option.{option_map}
 use Rattle.std.specs.List.{find, range_with_len}
 use Rattle.control.specs.declared.Range.{Range}
-use Rattle.control.specs.Blocks.{erase_range, InOrder}
+use Rattle.control.specs.Blocks.{covers, erase_range, InOrder}
 use Rattle.control.proofs.Tiling.{blocks-in-order}
-use Rattle.verdict.specs.Blocks.{block_range, in_range, block_from, block_of, pages_touched}
+use Rattle.verdict.specs.Blocks.{block_range, block_from, block_of, pages_touched}
 
 -- ---- ranges
 
-pub in-range : (r : Range) (p : ℕ) → r.first ≤ p → p < r.first + r.pages → in_range r p ≡ true
+pub in-range : (r : Range) (p : ℕ) → r.first ≤ p → p < r.first + r.pages → covers r p ≡ true
 in-range r p low high = rw (le-leb _ p low, lt-ltb p _ high)
 
-past-range : (r : Range) (p : ℕ) → r.first + r.pages ≤ p → in_range r p ≡ false
+past-range : (r : Range) (p : ℕ) → r.first + r.pages ≤ p → covers r p ≡ false
 past-range r p h = rw (le-leb r.first p (omega arith), le-ltb p _ h)
 
 -- where p lies in a range
-from-range : (r : Range) (p : ℕ) → in_range r p ≡ true → (r.first ≤ p) × (p < r.first + r.pages)
+from-range : (r : Range) (p : ℕ) → covers r p ≡ true → (r.first ≤ p) × (p < r.first + r.pages)
 from-range r p e = by (leb r.first p) (ltb p (r.first + r.pages)) refl refl e
   where
     by : (a b : Bool) → leb r.first p ≡ a → ltb p (r.first + r.pages) ≡ b → (a && b) ≡ true → (r.first ≤ p) × (p < r.first + r.pages)
@@ -37,7 +37,7 @@ from-range r p e = by (leb r.first p) (ltb p (r.first + r.pages)) refl refl e
 -- ---- the block of a page
 
 -- what a search of the blocks in turn gives
-pub block-first : (p : ℕ) (r : Option ℕ) → option_map (λ x. x) r ≡ find (λ b. in_range (block_range b) p) (range_with_len 0 6)
+pub block-first : (p : ℕ) (r : Option ℕ) → option_map (λ x. x) r ≡ find (λ b. covers (block_range b) p) (range_with_len 0 6)
     → r ≡ block_of p
 unfolding block_of block_from
 block-first p r e = same r ∙ e ∙ go 6 0
@@ -46,7 +46,7 @@ block-first p r e = same r ∙ e ∙ go 6 0
     same None = refl
     same (Some x) = refl
 
-    go : (n b : ℕ) → find (λ b. in_range (block_range b) p) (range_with_len b n) ≡ block_from n b p
+    go : (n b : ℕ) → find (λ b. covers (block_range b) p) (range_with_len b n) ≡ block_from n b p
     go zero b = refl
     go (suc n) b = rw (add-one, go n (suc b))
 
@@ -68,17 +68,17 @@ values (suc n) b = 2 ^ b ∷ values n (suc b)
 
 -- Where n blocks from block b on stand one after the other from page q to the end, one is told for a page from q on, and has it.
 block-found : (n b q p : ℕ) → InOrder q (values n b) → q ≤ p → p < 384
-    → (x : ℕ) × (block_from n b p ≡ Some x) × (x < b + n) × (in_range (block_range x) p ≡ true)
+    → (x : ℕ) × (block_from n b p ≡ Some x) × (x < b + n) × (covers (block_range x) p ≡ true)
 unfolding InOrder values block_from
 block-found zero b q p e low high = absurd (omega (arith, e))
 block-found (suc n) b q p (first, rest) low high =
-    by (λ l. block-found n (suc b) (q + (block_range b).pages) p rest l high) (in_range (block_range b) p) refl
+    by (λ l. block-found n (suc b) (q + (block_range b).pages) p rest l high) (covers (block_range b) p) refl
   where
     Found : Option ℕ → ℕ → Type 0
-    Found told past = (x : ℕ) × (told ≡ Some x) × (x < past) × (in_range (block_range x) p ≡ true)
+    Found told past = (x : ℕ) × (told ≡ Some x) × (x < past) × (covers (block_range x) p ≡ true)
 
     by : (q + (block_range b).pages ≤ p → Found (block_from n (suc b) p) (suc b + n))
-        → (t : Bool) → in_range (block_range b) p ≡ t → Found (cond t (Some b) (block_from n (suc b) p)) (b + suc n)
+        → (t : Bool) → covers (block_range b) p ≡ t → Found (cond t (Some b) (block_from n (suc b) p)) (b + suc n)
     by later true e = (b, refl, omega arith, e)
     by later false e =
         let l = ltb-false p _ (rw (le-leb (block_range b).first p (omega arith)) at e) in
@@ -86,7 +86,7 @@ block-found (suc n) b q p (first, rest) low high =
         (x, told, omega arith, has)
 
 -- A page of the array lies in the block that is told.
-pub page-in-block : (p : ℕ) → p < 384 → (b : ℕ) × (block_of p ≡ Some b) × (b < 6) × (in_range (block_range b) p ≡ true)
+pub page-in-block : (p : ℕ) → p < 384 → (b : ℕ) × (block_of p ≡ Some b) × (b < 6) × (covers (block_range b) p ≡ true)
 unfolding block_of values
 page-in-block p h = block-found 6 0 0 p blocks-in-order (omega arith) h
 
@@ -94,7 +94,7 @@ page-in-block p h = block-found 6 0 0 p blocks-in-order (omega arith) h
 told-small : (n b p : ℕ) → IfSome (block_from n b p) (λ x. x < b + n)
 unfolding block_from
 told-small zero b p = tt
-told-small (suc n) b p = by (told-small n (suc b) p) (in_range (block_range b) p)
+told-small (suc n) b p = by (told-small n (suc b) p) (covers (block_range b) p)
   where
     by : IfSome (block_from n (suc b) p) (λ x. x < suc b + n) → (t : Bool) → IfSome (cond t (Some b) (block_from n (suc b) p)) (λ x. x < b + suc n)
     by later true = omega arith
@@ -115,13 +115,13 @@ starts-later (suc n) b q c (first, rest) low high = by (λ l. starts-later n (su
     by later (no d) = omega (arith, later (omega arith))
 
 -- A page of one of them lies in no block before it, so that one is told.
-block-only : (n b q p c : ℕ) → InOrder q (values n b) → b ≤ c → c < b + n → in_range (block_range c) p ≡ true → block_from n b p ≡ Some c
+block-only : (n b q p c : ℕ) → InOrder q (values n b) → b ≤ c → c < b + n → covers (block_range c) p ≡ true → block_from n b p ≡ Some c
 unfolding InOrder values block_from
 block-only zero b q p c o low high e = absurd (omega arith)
 block-only (suc n) b q p c (first, rest) low high e =
     by (λ l. block-only n (suc b) (q + (block_range b).pages) p c rest l (omega arith) e) (ℕ_discrete c b)
   where
-    by : (suc b ≤ c → block_from n (suc b) p ≡ Some c) → Dec (c ≡ b) → cond (in_range (block_range b) p) (Some b) (block_from n (suc b) p) ≡ Some c
+    by : (suc b ≤ c → block_from n (suc b) p ≡ Some c) → Dec (c ≡ b) → cond (covers (block_range b) p) (Some b) (block_from n (suc b) p) ≡ Some c
     by later (yes d) = rw (rw d at e) (ap Some (sym d))
     by later (no d) =
         let s = starts-later n (suc b) (q + (block_range b).pages) c rest (omega arith) (omega arith) in
@@ -129,7 +129,7 @@ block-only (suc n) b q p c (first, rest) low high e =
         rw (past-range (block_range b) p (omega arith)) (later (omega arith))
 
 -- A page lies in no block but the one that is told.
-pub block-of-page : (b p : ℕ) → b < 6 → in_range (block_range b) p ≡ true → block_of p ≡ Some b
+pub block-of-page : (b p : ℕ) → b < 6 → covers (block_range b) p ≡ true → block_of p ≡ Some b
 unfolding block_of values
 block-of-page b p h e = block-only 6 0 0 p b blocks-in-order (omega arith) (omega arith) e
 
@@ -137,7 +137,7 @@ block-of-page b p h e = block-only 6 0 0 p b blocks-in-order (omega arith) (omeg
 
 module _ (from to : ℕ) where
   -- an address of the stretch lies in a page that is told
-  pub touched : (a : ℕ) → from ≤ a → a ≤ to → in_range (pages_touched from to) (a / 128) ≡ true
+  pub touched : (a : ℕ) → from ≤ a → a ≤ to → covers (pages_touched from to) (a / 128) ≡ true
   unfolding pages_touched
   touched a low high = in-range _ (a / 128) (omega arith) (omega arith)
 
@@ -147,7 +147,7 @@ module _ (from to : ℕ) where
   touched-inside h inside = omega arith
 
   -- and a page that is told has one
-  pub touched-only : (p : ℕ) → from ≤ to → in_range (pages_touched from to) p ≡ true → (a : ℕ) × (from ≤ a) × (a ≤ to) × (a / 128 ≡ p)
+  pub touched-only : (p : ℕ) → from ≤ to → covers (pages_touched from to) p ≡ true → (a : ℕ) × (from ≤ a) × (a ≤ to) × (a / 128 ≡ p)
   unfolding pages_touched
   touched-only p h e = let r = from-range (pages_touched from to) p e in by r (dec_lt (p * 128) from)
     where

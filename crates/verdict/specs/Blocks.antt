@@ -1,8 +1,8 @@
 -- Blocks as ranges of pages, the block of a page, and the pages of a stretch of addresses. Document 01, "Pulses and settling".
 -- Assumes nothing.
-use Rattle.std.specs.Prelude.{ℕ, zero, suc, ◌+◌, ◌-◌, ◌/◌, ◌^◌, Bool, cond, ◌&&◌, Option, None, Some, leb, ltb}
+use Rattle.std.specs.Prelude.{ℕ, zero, suc, ◌+◌, ◌-◌, ◌/◌, ◌^◌, cond, Option, None, Some}
 use Rattle.cell.specs.Cell.{page_bytes}
-use Rattle.control.specs.Blocks.{erase_range}
+use Rattle.control.specs.Blocks.{covers, erase_range}
 use Rattle.control.specs.declared.Range.{Range}
 
 -- There are blocks 0 to 5.
@@ -13,14 +13,10 @@ blocks = 6
 abbrev pub block_range : ℕ → Range
 block_range b = erase_range (2 ^ b)
 
--- whether page p lies in a range
-abbrev pub in_range : Range → ℕ → Bool
-in_range r p = leb r.first p && ltb p (r.first + r.pages)
-
 -- the first of n blocks from block b on that page p lies in, if one has it
 unfoldable pub block_from : ℕ → ℕ → ℕ → Option ℕ
 block_from zero b p = None
-block_from (suc n) b p = cond (in_range (block_range b) p) (Some b) (block_from n (suc b) p)
+block_from (suc n) b p = cond (covers (block_range b) p) (Some b) (block_from n (suc b) p)
 
 -- the block of page p, none for a page past the array
 unfoldable pub block_of : ℕ → Option ℕ

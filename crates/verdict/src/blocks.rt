@@ -1,6 +1,6 @@
 // Blocks as ranges of pages, the block of a page, and the pages of a stretch of addresses.
 ghost use Rattle.std.specs.Prelude.{◌≡◌, ◌<◌, ◌≤◌};
-ghost use Rattle.verdict.specs.Blocks.{blocks, block_range, in_range, block_of, pages_touched};
+ghost use Rattle.verdict.specs.Blocks.{blocks, block_range, block_of, pages_touched};
 
 use cell::PAGE_BYTES;
 use control::Range;
@@ -19,19 +19,11 @@ pub fn block_range(block: usize) -> Range
     erase_range(ERASE[block])
 }
 
-// Whether a page lies in a range.
-#[tactic(auto, unfolding(control::specs::Blocks::covers))]
-pub fn in_range(range: Range, page: usize) -> bool
-    ensures { result ≡ in_range range page }
-{
-    range.covers(page)
-}
-
 // The block that a page lies in, none for a page past the array.
 pub fn block_of(page: usize) -> Option<usize>
     ensures { result ≡ block_of page }
 {
-    (0..BLOCKS).find(|block| in_range(block_range(*block), page))
+    (0..BLOCKS).find(|block| block_range(*block).covers(page))
 }
 
 // The pages in which the addresses from one to another lie, both included.

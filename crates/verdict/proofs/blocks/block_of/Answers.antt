@@ -7,13 +7,14 @@ use Rattle.std.specs.List.{find, range_with_len}
 use Rattle.std.specs.Option.{option_map}
 use Rattle.std.proofs.lemmas.Iterator.{YieldsList-from_range}
 use Rattle.std.proofs.lemmas.Iterator.Search.{find_from_yields_List}
-use Rattle.verdict.specs.Blocks.{block_range, in_range}
+use Rattle.control.specs.Blocks.{covers}
+use Rattle.verdict.specs.Blocks.{block_range}
 use Rattle.verdict.proofs.Places.{block-first}
 use Rattle.verdict.proofs.blocks.block_of.Goals as goal
 
 pub returns : goal.returns
 returns c =
     let page = c.args.page in
-    let e : option_map (λ x. x) c.find.result ≡ find (λ b. in_range (block_range b) page) (range_with_len 0 6) =
-    find_from_yields_List (λ b. in_range (block_range b) page) _ _ c.find.result c.find.ensures.ran (YieldsList-from_range 0 6 6 refl refl) (λ x b q k. search (rules, tests)) in
+    let e : option_map (λ x. x) c.find.result ≡ find (λ b. covers (block_range b) page) (range_with_len 0 6) =
+    find_from_yields_List (λ b. covers (block_range b) page) _ _ c.find.result c.find.ensures.ran (YieldsList-from_range 0 6 6 refl refl) (λ x b q k. search (rules, tests)) in
     block-first page c.find.result e
