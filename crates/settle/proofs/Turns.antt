@@ -15,6 +15,7 @@ use Rattle.cell.proofs.Sensed.{sensed_byte-same}
 use Rattle.registers.specs.declared.Pulse.{Pulse}
 use Rattle.settle.specs.Pages.{Cells, cell_at, opened, slot_for, on_page, on_pages}
 use Rattle.settle.specs.Settling.{charged, ruled, normal_byte, spanned, expose, changes, Left}
+use Rattle.settle.specs.Views.{cells_of}
 use Rattle.settle.proofs.Slots.{Slots, SlotsOf, opened-set}
 use Rattle.settle.proofs.Page.{slot_next, slot-own}
 use Rattle.settle.proofs.Range.{pages-slots, pages-array}
@@ -23,12 +24,9 @@ use Rattle.settle.proofs.Place.{spanned-high, resensed-spanned}
 use Rattle.settle.proofs.Expose.{pages-sensed}
 use Rattle.settle.proofs.Stored.{Stored, stored-none, stored-further}
 
-abbrev pub cells : List ℕ → List ℕ → List ℕ → Cells
-cells index array charges = record { index = index; array = array; charges = charges }
-
 -- the page of turn i charged
 abbrev pub turn : Pulse → List ℕ → ℕ → ℕ → List ℕ → List ℕ → List ℕ → Cells
-turn pulse latch l i index array charges = on_page (charged pulse latch l) (pulse.first + i) (cells index array charges)
+turn pulse latch l i index array charges = on_page (charged pulse latch l) (pulse.first + i) (cells_of index array charges)
 
 -- ---- nothing to do
 
@@ -133,17 +131,17 @@ module _
     turned-charges : (turn pulse latch l i index array charges).charges
         ≡ (on_pages (charged pulse latch l) (suc i) pulse.first c).charges
     unfolding p before f
-    turned-charges = rw (pages-snoc f i pulse.first c, t.index_is, t.charges_is) (page-own (cells before.index array before.charges) before.array f p own)
+    turned-charges = rw (pages-snoc f i pulse.first c, t.index_is, t.charges_is) (page-own (cells_of before.index array before.charges) before.array f p own)
 
     module _ (slot : ℕ) (at_slot : slot ≡ slot_for index (pulse.first + i)) where
       pub turned-moves : slot ≡ next → next + 1 ≡ opened (turn pulse latch l i index array charges).index
       turned-moves e =
-          let m = next-moves (cells index array charges) turned-slots (pulse.first + i) (omega arith) (charged pulse latch l) (sym at_slot ∙ e ∙ t.next_is) in
+          let m = next-moves (cells_of index array charges) turned-slots (pulse.first + i) (omega arith) (charged pulse latch l) (sym at_slot ∙ e ∙ t.next_is) in
           omega (arith, t.next_is)
 
       pub turned-stays : slot ≢ next → next ≡ opened (turn pulse latch l i index array charges).index
       turned-stays n =
-          let m = next-stays (cells index array charges) turned-slots (pulse.first + i) (omega arith) (charged pulse latch l) (λ e. n (at_slot ∙ e ∙ sym t.next_is)) in
+          let m = next-stays (cells_of index array charges) turned-slots (pulse.first + i) (omega arith) (charged pulse latch l) (λ e. n (at_slot ∙ e ∙ sym t.next_is)) in
           omega (arith, t.next_is)
 
       -- one more page

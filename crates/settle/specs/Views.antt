@@ -1,20 +1,28 @@
 -- What is read and exposed, as values of the code stand for it.
 -- Assumes nothing.
-use Rattle.std.specs.Prelude.{◌≡◌, Option, Some, None}
+use Rattle.std.specs.Prelude.{ℕ, ◌≡◌, List, length, Option, Some, None}
 use Rattle.time.specs.Raw.{span}
+use Rattle.cell.specs.Cell.{array_bytes, array_cells, pages}
 use Rattle.settle.specs.declared.cells.CellsRef.{CellsRef}
 use Rattle.settle.specs.declared.cells.CellsMut.{CellsMut}
 use Rattle.settle.specs.declared.exposure.Exposure.{Exposure}
 use Rattle.settle.specs.Pages.{Cells}
 use Rattle.settle.specs.Settling.{expose}
 
+-- the cells that an index, an array and charges are, and that each has its length
+abbrev pub cells_of : List ℕ → List ℕ → List ℕ → Cells
+cells_of index array charges = record { index = index; array = array; charges = charges }
+
+abbrev pub Lengths : List ℕ → List ℕ → List ℕ → Type 0
+Lengths index array charges = (length index ≡ pages) × (length array ≡ array_bytes) × (length charges ≡ array_cells)
+
 -- the cells behind the references
 abbrev pub cells_in : CellsRef → Cells
-cells_in cells = record { index = cells.index.now; array = cells.array.now; charges = cells.charges.now }
+cells_in cells = cells_of cells.index.now cells.array.now cells.charges.now
 
 -- of cells to be changed, at some moment
 abbrev pub cells_at : CellsMut → Cells
-cells_at cells = record { index = cells.index.now; array = cells.array.now; charges = cells.charges.now }
+cells_at cells = cells_of cells.index.now cells.array.now cells.charges.now
 
 -- The same memory as before, whatever it holds.
 pub record SameCells (old new : CellsMut) : Type 0 where

@@ -42,22 +42,7 @@ impl Exposure<'_> {
         })
     }
 
-    // The exposure of a pulse at a time, from a last settling on.
-    pub fn of<'a>(
-        pulse: Pulse,
-        latch: &'a [u8; PAGE],
-        since: Time,
-        time: Time,
-    ) -> Option<Exposure<'a>>
-        ensures settles { (c : Cells) → settled_by (Some pulse) latch.now since time c ≡ after_exposure result c }
-        ensures same_pulse { IfSome result (λ exposure. exposure.pulse ≡ pulse) }
-    {
-        let ready = pulse.ready;
-        let length = time.since(since.max(ready));
-        Exposure::lasting(pulse, latch, length)
-    }
-
-    // The exposure of a settle at a time, of the pulse that is open.
+    // The exposure of a settle at a time, of the pulse that is open, from a last settling on.
     pub fn at<'a>(
         pulse: Option<Pulse>,
         latch: &'a [u8; PAGE],
@@ -67,7 +52,10 @@ impl Exposure<'_> {
         ensures settles { (c : Cells) → settled_by pulse latch.now since time c ≡ after_exposure result c }
         ensures same_pulse { IfSome result (λ exposure. pulse ≡ Some exposure.pulse) }
     {
-        Exposure::of(pulse?, latch, since, time)
+        let pulse = pulse?;
+        let ready = pulse.ready;
+        let length = time.since(since.max(ready));
+        Exposure::lasting(pulse, latch, length)
     }
 
     // Whether it reaches a page.

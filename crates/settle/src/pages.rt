@@ -1,9 +1,10 @@
 // Pages and slots: where a cell's charge stands, and which slot a page takes.
 ghost use Rattle.std.specs.Prelude.{◌≡◌, true, ◌<◌, ◌≤◌, length};
 ghost use Rattle.time.specs.Raw.{span};
-ghost use Rattle.cell.specs.Cell.{array_bytes, array_cells, pages};
+ghost use Rattle.cell.specs.Cell.{pages};
 ghost use Rattle.settle.specs.Pages.{opened, slot_for, on_page, slots_sound};
 ghost use Rattle.settle.specs.Settling.{charged};
+ghost use Rattle.settle.specs.Views.{cells_of, Lengths};
 
 use cell::PAGE;
 use charging::{charge_slot, open_slot};
@@ -35,11 +36,11 @@ pub fn charge_page(
     next: usize,
     pulse: Pulse,
     latch: &[u8; PAGE],
-    exposure: Duration,
+    lasting: Duration,
 ) -> usize
-    requires { (length index.old ≡ pages) × (slots_sound index.old ≡ true) × (length array.now ≡ array_bytes) × (length charges.old ≡ array_cells) × (page < pages) × (next ≡ opened index.old) }
-    ensures index { index.new ≡ (on_page (charged pulse latch.now (span exposure)) page (record { index = index.old; array = array.now; charges = charges.old })).index }
-    ensures charges { charges.new ≡ (on_page (charged pulse latch.now (span exposure)) page (record { index = index.old; array = array.now; charges = charges.old })).charges }
+    requires { Lengths index.old array.now charges.old × (slots_sound index.old ≡ true) × (page < pages) × (next ≡ opened index.old) }
+    ensures index { index.new ≡ (on_page (charged pulse latch.now (span lasting)) page (cells_of index.old array.now charges.old)).index }
+    ensures charges { charges.new ≡ (on_page (charged pulse latch.now (span lasting)) page (cells_of index.old array.now charges.old)).charges }
     ensures slot { result ≡ slot_for index.old page }
 {
     let direction = pulse.direction;
@@ -48,9 +49,9 @@ pub fn charge_page(
         let (stored, _) = array.as_chunks::<PAGE>();
         open_slot(charges, next, &stored[page]);
         index[page] = (next + 1) as u16;
-        charge_slot(charges, next, latch, direction, exposure);
+        charge_slot(charges, next, latch, direction, lasting);
         return next;
     }
-    charge_slot(charges, entry - 1, latch, direction, exposure);
+    charge_slot(charges, entry - 1, latch, direction, lasting);
     entry - 1
 }

@@ -40,7 +40,7 @@ pub charge_page-slot-requires : goal.charge_page-slot-requires
 charge_page-slot-requires c =
     let room = rw c.in-Some.is at c.requires in
     let m = c.loop-i.cells in
-    (m.index_long, m.sound, m.array_long, m.charges_long, omega arith, c.loop-i.invariant.1.next_is)
+    ((m.index_long, m.array_long, m.charges_long), m.sound, omega arith, c.loop-i.invariant.1.next_is)
 
 pub invariant_of-cells-clause-index_long : goal.invariant_of-cells-clause-index_long
 invariant_of-cells-clause-index_long c =
