@@ -2,21 +2,23 @@
 ghost use Rattle.std.specs.Prelude.{◌≡◌};
 ghost use Rattle.ledger.specs.Words.{kind_in, address_in, value_in};
 
+use settle::event_words::{ADDRESS, KIND};
+
 pub fn kind_in(word: u64) -> u64
     ensures { result ≡ kind_in word }
 {
-    word / 0x1_0000_0000
+    word / KIND
 }
 
 pub fn address_in(word: u64) -> u64
     ensures { result ≡ address_in word }
 {
-    word / 0x1_0000 % 0x1_0000
+    word % KIND / ADDRESS
 }
 
 // The value of a byte, or the length of a pulse.
 pub fn value_in(word: u64) -> u64
     ensures { result ≡ value_in word }
 {
-    word % 0x1_0000
+    word % ADDRESS
 }

@@ -3,5 +3,6 @@
 #![tactic(auto)]
 
 pub mod cells;
+pub mod event_words;
 pub mod exposure;
 pub mod pages;

@@ -14,6 +14,7 @@ use cell::{PAGE, PAGE_CELLS, Sense};
 use registers::{Ending, Pulse};
 use sensing::limits::Ceilings;
 use settle::cells::CellsMut;
+use settle::event_words::{ADDRESS, KIND};
 use settle::exposure::Exposure;
 use settle::pages::{charge_page, opened};
 use time::Time;
@@ -54,7 +55,7 @@ impl From<Ending> for EventKind {
 pub fn word(kind: EventKind, address: u16, value: u16) -> u64
     ensures { result ≡ word (kind_number kind) address value }
 {
-    u64::from(kind) * 4294967296 + u64::from(address) * 65536 + u64::from(value)
+    u64::from(kind) * KIND + u64::from(address) * ADDRESS + u64::from(value)
 }
 
 // The event word of a byte.
@@ -75,7 +76,9 @@ fn store_page(
     count: usize,
 ) -> usize
     requires { (length array.old ≡ array_bytes) × (address + page_bytes ≤ array_bytes) × (count + page_bytes ≤ length events.old) }
-    ensures { (array.new ≡ spanned address (address + page_bytes) (λ a. at bytes.now (a - address)) array.old) × (events.new ≡ sets events.old count (changes 0 array.old array.new)) × (result ≡ count + length (changes 0 array.old array.new)) }
+    ensures array { array.new ≡ spanned address (address + page_bytes) (λ a. at bytes.now (a - address)) array.old }
+    ensures events { events.new ≡ sets events.old count (changes 0 array.old array.new) }
+    ensures count { result ≡ count + length (changes 0 array.old array.new) }
 {
     let mut n = count;
     for i in 0..PAGE {

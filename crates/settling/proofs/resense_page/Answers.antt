@@ -35,4 +35,4 @@ returns-clause-array c =
     let n = length x.cells.now.charges.now / 1024 in
     let inside : x.slot < n = omega (arith, x.cells.now.charges_long) in
     let sensed = page-sensed x.ceilings.now.sense (x.page * 128) x.slot n x.cells.now.charges.now inside in
-    c.store_page.ensures.0 ∙ spanned-same (x.page * 128) (x.page * 128 + 128) _ _ x.cells.now.array.now (λ a h k _. rw (c.sense_page.ensures, c.as_chunks.ensures.front, charges) (sensed a h k))
+    c.store_page.ensures.array ∙ spanned-same (x.page * 128) (x.page * 128 + 128) _ _ x.cells.now.array.now (λ a h k _. rw (c.sense_page.ensures, c.as_chunks.ensures.front, charges) (sensed a h k))

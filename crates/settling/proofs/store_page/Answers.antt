@@ -37,9 +37,14 @@ shape_of-array c = stored-length c.loop-i.invariant.1
 pub shape_of-events : goal.shape_of-events
 shape_of-events c = stored-events c.loop-i.invariant.1
 
-pub returns : goal.returns
-returns c =
+pub returns-clause-array : goal.returns-clause-array
+returns-clause-array c =
     let l = c.loop-i in
     let e : l.i ≡ 128 = omega arith in
-    let s = l.invariant.1 in
-    (s.array_is ∙ rw e, s.events_are, s.count_is)
+    l.invariant.1.array_is ∙ rw e
+
+pub returns-clause-events : goal.returns-clause-events
+returns-clause-events c = c.loop-i.invariant.1.events_are
+
+pub returns-clause-count : goal.returns-clause-count
+returns-clause-count c = c.loop-i.invariant.1.count_is
