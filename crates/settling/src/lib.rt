@@ -81,12 +81,11 @@ fn store_page(
     ensures count { result ≡ count + length (changes 0 array.old array.new) }
 {
     let mut n = count;
-    for i in 0..PAGE {
+    for (i, value) in bytes.iter().enumerate() {
         let old = array[address + i];
-        let value = bytes[i];
-        if old != value {
-            array[address + i] = value;
-            events[n] = byte_word(address + i, value);
+        if old != *value {
+            array[address + i] = *value;
+            events[n] = byte_word(address + i, *value);
             n += 1;
         }
     }
