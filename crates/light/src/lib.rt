@@ -12,7 +12,7 @@ use bits::{E, ESU, FENR, P, PSU, SWE, has};
 use control::Supply;
 use flash::Flash;
 use lent::checking::last_second;
-use listing::{FIRST, KIND, NUMBERS};
+use listing::{KIND, NUMBERS, first_in, second_in};
 use registers::Registers;
 use time::Time;
 use time::accepted::Accepted;
@@ -108,8 +108,8 @@ fn run_writes(flash: Flash, calls: &[u64], from: usize, end: usize) -> Ahead
             };
         }
         // Taken apart here and not by `request_in`: only register writes are light, and the others are told by one comparison.
-        let address = (what / FIRST % 0x1_0000) as u16;
-        let value = (what % FIRST) as u8;
+        let address = first_in(what);
+        let value = second_in(what);
         since = since_after(settings.enabled, address, since, time);
         // A light call is before the last second.
         let now = Accepted { time };

@@ -6,7 +6,7 @@ ghost use Rattle.std.specs.Prelude.{◌≡◌, ◌+◌, ◌*◌, ◌<◌, length
 ghost use Rattle.layout.specs.Layout.{flag_byte};
 ghost use Rattle.layout.specs.Whole.{TimeFits};
 ghost use Rattle.ledger.specs.Lists.{Numbers};
-ghost use Rattle.listing.specs.Calls.{request_by, request_in, asking_at, packed, word_of};
+ghost use Rattle.listing.specs.Calls.{first_in, second_in, request_by, request_in, asking_at, packed, word_of};
 
 pub use lent::Asking;
 use lent::{Answer, Request};
@@ -26,7 +26,20 @@ pub struct Replayed {
 // The values of a kind and of a first argument in a call's number.
 pub const KIND: u64 = 0x100_0000;
 
-pub const FIRST: u64 = 0x100;
+const FIRST: u64 = 0x100;
+
+// The first argument in a call's number, and the second.
+pub fn first_in(what: u64) -> u16
+    ensures { result ≡ first_in what }
+{
+    (what % KIND / FIRST) as u16
+}
+
+pub fn second_in(what: u64) -> u8
+    ensures { result ≡ second_in what }
+{
+    (what % FIRST) as u8
+}
 
 #[tactic(auto, unfolding(crate::specs::Calls::request_by))]
 fn request_by(kind: u64, first: u16, second: u8) -> Request
@@ -48,9 +61,7 @@ fn request_by(kind: u64, first: u16, second: u8) -> Request
 pub fn request_in(what: u64) -> Request
     ensures { result ≡ request_in what }
 {
-    let first = what / FIRST % 0x1_0000;
-    let second = what % FIRST;
-    request_by(what / KIND, first as u16, second as u8)
+    request_by(what / KIND, first_in(what), second_in(what))
 }
 
 // The i-th call of a list.

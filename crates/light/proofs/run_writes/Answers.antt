@@ -14,7 +14,10 @@ invariant_of-now c =
 
 pub loop-i-preserved : goal.loop-i-preserved
 loop-i-preserved c =
-    (onward-more c.loop-i.invariant.0 (onward-light _ _ _ c.args.flash _ _ _ _ c.loop-i-test.true (λ n. (c.shared_slice_known-1.given n).fits) (rw c.may_pulse-may.ensures at (sym c.is_light.ensures ∙ c.if-not-is_light.false)) c.write-settings.ensures c.since_after-since.ensures), omega arith)
+    let lit = rw c.may_pulse-may.ensures at (sym c.is_light.ensures ∙ c.if-not-is_light.false) in
+    let written = rw (c.first_in-address.ensures, c.second_in-value.ensures) at c.write-settings.ensures in
+    let since = rw c.first_in-address.ensures at c.since_after-since.ensures in
+    (onward-more c.loop-i.invariant.0 (onward-light _ _ _ c.args.flash _ _ _ _ c.loop-i-test.true (λ n. (c.shared_slice_known-1.given n).fits) lit written since), omega arith)
 
 pub returns : goal.returns
 returns c =
