@@ -19,13 +19,13 @@ fn rate(direction: Direction) -> u64
 }
 
 // By how much an exposure moves a cell, clipped to 64 bits: no charge can move further.
-fn amount(direction: Direction, exposure: Duration) -> u64
-    ensures { result ≡ min (rate direction * span exposure) (2 ^ 64 - 1) }
+fn amount(direction: Direction, lasting: Duration) -> u64
+    ensures { result ≡ min (rate direction * span lasting) (2 ^ 64 - 1) }
 {
-    if exposure.0 != 0 {
+    if lasting.0 != 0 {
         return u64::MAX;
     }
-    rate(direction).saturating_mul(exposure.1)
+    rate(direction).saturating_mul(lasting.1)
 }
 
 // A cell's charge moved by an amount; `latched` is the cell's latched bit. From which charge on a cell gets full depends on the amount alone,
@@ -52,10 +52,10 @@ fn moved(direction: Direction, latched: u8, amount: u64, q: u64) -> u64
 }
 
 // A cell's charge after an exposure.
-pub fn expose(direction: Direction, latched: u8, exposure: Duration, q: u64) -> u64
-    ensures { result ≡ exposed direction latched (span exposure) q }
+pub fn expose(direction: Direction, latched: u8, lasting: Duration, q: u64) -> u64
+    ensures { result ≡ exposed direction latched (span lasting) q }
 {
-    moved(direction, latched, amount(direction, exposure), q)
+    moved(direction, latched, amount(direction, lasting), q)
 }
 
 // Bit k of a byte.
@@ -93,11 +93,11 @@ fn open(cells: &mut [u64], bytes: &[u8; PAGE])
 }
 
 // A page's charges after an exposure.
-fn charge(cells: &mut [u64], latch: &[u8; PAGE], direction: Direction, exposure: Duration)
+fn charge(cells: &mut [u64], latch: &[u8; PAGE], direction: Direction, lasting: Duration)
     requires { length cells.old ≡ page_cells }
-    ensures { cells.new ≡ charged_page direction latch.now (span exposure) cells.old }
+    ensures { cells.new ≡ charged_page direction latch.now (span lasting) cells.old }
 {
-    let by = amount(direction, exposure);
+    let by = amount(direction, lasting);
     for (j, q) in cells.iter_mut().enumerate() {
         *q = moved(direction, page_bit(latch, j), by, *q);
     }
@@ -119,12 +119,12 @@ pub fn charge_slot(
     slot: usize,
     latch: &[u8; PAGE],
     direction: Direction,
-    exposure: Duration,
+    lasting: Duration,
 )
     requires { (length charges.old ≡ array_cells) × (slot < pages) }
-    ensures { charges.new ≡ charged_slot slot direction latch.now (span exposure) charges.old }
+    ensures { charges.new ≡ charged_slot slot direction latch.now (span lasting) charges.old }
 {
     let start = slot * PAGE_CELLS;
     let end = start + PAGE_CELLS;
-    charge(&mut charges[start..end], latch, direction, exposure);
+    charge(&mut charges[start..end], latch, direction, lasting);
 }

@@ -19,14 +19,14 @@ passes : (r h l w : ℕ) → 0 < r → 0 < h → w - 1 ≤ r * (h * w + l)
 passes r h l w m n =
     omega (arith, one-mul w, mul-le-mul_right {m = 1} {n = h} w n, one-mul (h * w + l), mul-le-mul_right {m = 1} {n = r} (h * w + l) m)
 
-pub returns-then-exposure-ne0 : goal.returns-then-exposure-ne0
+pub returns-then-lasting-ne0 : goal.returns-then-lasting-ne0
 unfolding span
-returns-then-exposure-ne0 c =
-    let x = c.args in sym (min-eq_right (passes (rate x.direction) x.exposure.0 x.exposure.1 (2 ^ 64) (some x.direction) (omega arith)))
+returns-then-lasting-ne0 c =
+    let x = c.args in sym (min-eq_right (passes (rate x.direction) x.lasting.0 x.lasting.1 (2 ^ 64) (some x.direction) (omega arith)))
 
 pub returns : goal.returns
 unfolding span
 returns c =
-    let e = c.args.exposure in
+    let e = c.args.lasting in
     let short : e.0 * 2 ^ 64 + e.1 ≡ e.1 = omega arith in
     rw (c.saturating_mul.ensures, c.rate.ensures, short)

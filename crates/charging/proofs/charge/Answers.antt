@@ -34,5 +34,5 @@ returns c =
     let e : c.loop-j.j ≡ length x.cells.now = omega arith in
     c.loop-j.invariant
     ∙ partly-all _ _ _ e
-    ∙ clipped-page x.direction x.latch.now (span x.exposure) _ x.cells.now c.amount-by.ensures
+    ∙ clipped-page x.direction x.latch.now (span x.lasting) _ x.cells.now c.amount-by.ensures
     (λ k. search arith)

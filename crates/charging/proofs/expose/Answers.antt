@@ -9,4 +9,4 @@ use Rattle.charging.proofs.expose.Goals as goal
 pub returns : goal.returns
 returns c =
     let x = c.args in
-    c.moved.ensures ∙ clipped-exposes x.direction x.latched (span x.exposure) _ x.q c.amount.ensures (omega arith)
+    c.moved.ensures ∙ clipped-exposes x.direction x.latched (span x.lasting) _ x.q c.amount.ensures (omega arith)

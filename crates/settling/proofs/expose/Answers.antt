@@ -9,6 +9,7 @@ use Rattle.time.specs.Raw.{span}
 use Rattle.settle.specs.Pages.{Cells, opened, on_page}
 use Rattle.settle.specs.Settling.{charged}
 use Rattle.settle.specs.declared.cells.CellsMut.{CellsMut}
+use Rattle.settle.specs.declared.exposure.Exposure.{Exposure}
 use Rattle.settle.specs.Views.{cells_at}
 use Rattle.settle.proofs.Slots.{SlotsOf, slots-from, slots-sound, opened-le}
 use Rattle.settle.proofs.Page.{slot_lt, page-slots}
@@ -17,9 +18,9 @@ use Rattle.settle.proofs.Turns.{turn, turned_none, turned-all, turned-slots, tur
 use Rattle.settling.proofs.expose.Goals as goal
 use Rattle.settling.proofs.expose.Goals.{then-slot-next, else-slot-next}
 
--- the slots after a page
-charged-slots : (m : CellsMut) (page : ℕ) (f : ℕ → ℕ → ℕ) → SlotsOf (on_page f page (cells_at m))
-charged-slots m page f = page-slots (cells_at m) (slots-from m.index.now m.charges.now m.index_long m.charges_long m.sound) page f
+-- the slots after a page was charged
+charged-slots : (m : CellsMut) (e : Exposure) (page : ℕ) → SlotsOf (on_page (charged e.pulse e.latch.now (span e.length)) page (cells_at m))
+charged-slots m e page = page-slots (cells_at m) (slots-from m.index.now m.charges.now m.index_long m.charges_long m.sound) page _
 
 pub returns-in_default-clause-left : goal.returns-in_default-clause-left
 returns-in_default-clause-left c = rw c.in_default.is (left-same (cells_at c.args.cells.now) c.args.events.now)
@@ -44,24 +45,15 @@ charge_page-slot-requires c =
 
 pub invariant_of-cells-clause-index_long : goal.invariant_of-cells-clause-index_long
 invariant_of-cells-clause-index_long c =
-    let e = c.in-Some.exposure in
-    let f = charged e.pulse e.latch.now (span e.length) in
-    let page = c.from-first.result + c.loop-i.i in
-    rw c.charge_page-slot.ensures.index (charged-slots c.loop-i.cells page f).pages
+    rw c.charge_page-slot.ensures.index (charged-slots c.loop-i.cells c.in-Some.exposure (c.from-first.result + c.loop-i.i)).pages
 
 pub invariant_of-cells-clause-charges_long : goal.invariant_of-cells-clause-charges_long
 invariant_of-cells-clause-charges_long c =
-    let e = c.in-Some.exposure in
-    let f = charged e.pulse e.latch.now (span e.length) in
-    let page = c.from-first.result + c.loop-i.i in
-    rw c.charge_page-slot.ensures.charges (charged-slots c.loop-i.cells page f).room
+    rw c.charge_page-slot.ensures.charges (charged-slots c.loop-i.cells c.in-Some.exposure (c.from-first.result + c.loop-i.i)).room
 
 pub invariant_of-cells-clause-sound : goal.invariant_of-cells-clause-sound
 invariant_of-cells-clause-sound c =
-    let e = c.in-Some.exposure in
-    let f = charged e.pulse e.latch.now (span e.length) in
-    let page = c.from-first.result + c.loop-i.i in
-    rw c.charge_page-slot.ensures.index (slots-sound (charged-slots c.loop-i.cells page f))
+    rw c.charge_page-slot.ensures.index (slots-sound (charged-slots c.loop-i.cells c.in-Some.exposure (c.from-first.result + c.loop-i.i)))
 
 pub overflow_add-next : goal.overflow_add-next
 overflow_add-next c =
