@@ -8,7 +8,7 @@ ghost use Rattle.lent.specs.Asked.{call_of, outcome, value_of, count_of};
 ghost use Rattle.lent.specs.Views.{memory_at, SameLent, LeavesLent};
 
 use coding::write;
-use lent::checking::{call_of, call_refusal};
+use lent::checking::call_refusal;
 use lent::memory::LentMut;
 use lent::{Answer, Asking};
 use perform::perform;
@@ -28,7 +28,7 @@ pub fn ask(memory: &mut LentMut, events: &mut [u64], asking: Asking) -> Result<A
         memory.array,
         memory.charges,
         events,
-        call_of(asking.request),
+        asking.request.into(),
         now,
     );
     write(memory.record, done.flash);

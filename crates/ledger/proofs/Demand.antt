@@ -20,7 +20,7 @@ use Rattle.lent.specs.declared.Request.TheVariants.{Read8, Read16}
 use Rattle.lent.specs.Memory.{Memory, chip_in, check, past_end, bit_over}
 use Rattle.lent.specs.Asked.{outcome}
 use Rattle.lent.proofs.Lines.{line}
-use Rattle.lent.specs.Looked.{sized_refusal, charge_refusal, charge_answer, peek_refusal, peek_answer, image_refusal, image_left}
+use Rattle.lent.specs.Looked.{sized_refusal, charge_refusal, charge_answer, peek_refusal, peek_answer, output_refusal, image_refusal, image_left}
 use Rattle.ledger.specs.Words.{applied, ends_in}
 use Rattle.ledger.specs.Ledger.{Ledger, look, fresh_ledger}
 use Rattle.ledger.specs.Lists.{new_memory}
@@ -60,7 +60,7 @@ module _ (m : Memory) (led : Ledger) (a : Carries m led) where
       settled-array-length r.latch (chip_in m).flash.pulse_since t (cells (chip_in m)) (pulse r) ∙ a.agree.sound.bytes
 
   image-passed : (t : Time) (room : ℕ) → image_refusal t room m ≡ 0 → Passed false t m (check 8 (ltb room 49152) ∷ [])
-  unfolding image_refusal
+  unfolding image_refusal output_refusal
   image-passed t room e = passed false t m (check 8 (ltb room 49152) ∷ []) e
 
   image-look : (t : Time) (out : List ℕ) → image_refusal t (length out) m ≡ 0

@@ -1,39 +1,24 @@
--- What a look shows, from its checks: a refusal's number with no answer, or 0 with one. An image's room is checked after what every look
--- checks, and a look at memory that is not refused has the lengths and an accepted record. By cases on each check. Assumes nothing.
+-- What a look shows, from its checks: a refusal's number with no answer, or 0 with one. With room for its answer a look that writes it is
+-- refused as any look is, and a look at memory that is not refused has the lengths and an accepted record. By cases on each check. Assumes nothing.
 use mathlib.Core.Path.{◌≡◌, refl, sym, ◌∙◌}
-use mathlib.Core.Logic.{◌≢◌}
 use mathlib.Core.Bool.{Bool, true, false, cond, not}
-use mathlib.Core.List.{List, [], ◌∷◌}
+use mathlib.Core.List.{List}
 use Prim.Native.Nat.{ℕ, ◌≤◌}
 use native.Mathlib.Omega.{arith}
-use lib.Dec.{ltb}
 use lib.ListN.{length}
 use borrow.Author.Tests.{le-ltb}
 use Rattle.time.specs.declared.Time.{Time}
-use Rattle.cell.specs.Cell.{array_bytes}
 use Rattle.layout.specs.Layout.{accepted, decoded}
-use Rattle.lent.specs.Memory.{Memory, check, sizes_misfit, last_second, too_early}
-use Rattle.lent.specs.Looked.{sized_checks, sized_refusal, look_refusal, image_refusal}
+use Rattle.lent.specs.Memory.{Memory, sizes_misfit, last_second, too_early}
+use Rattle.lent.specs.Looked.{sized_refusal, look_refusal, output_refusal}
 use Rattle.lent.proofs.Fitted.{Sizes, sizes-fit}
-use Rattle.lent.proofs.Lines.{given-first, given-after}
 
--- ---- the room for an image
+-- ---- the room for an answer
 
-module _ (t : Time) (room : ℕ) (m : Memory) where
-  pub image-first : {n : ℕ} → n ≡ look_refusal false t m → n ≢ 0 → n ≡ image_refusal t room m
-  unfolding sized_refusal image_refusal
-  image-first e h =
-      given-first (sized_checks false t m.bytes (length m.array) (length m.charges)) (check 8 (ltb room array_bytes) ∷ []) _ e h
-
-  module _ {n : ℕ} (e : n ≡ look_refusal false t m) (z : n ≡ 0) where
-    image-after : image_refusal t room m ≡ cond (ltb room array_bytes) 8 0
-    unfolding sized_refusal image_refusal
-    image-after =
-        given-after (sized_checks false t m.bytes (length m.array) (length m.charges)) (check 8 (ltb room array_bytes) ∷ [])
-        (omega arith, (omega arith, (omega arith, (omega arith, (omega arith, tt))))) (sym e ∙ z)
-
-    pub image-done : array_bytes ≤ room → 0 ≡ image_refusal t room m
-    image-done h = sym (image-after ∙ rw (le-ltb room array_bytes h))
+-- with room for the answer a look that writes it is refused as any look is
+pub roomy : (n room : ℕ) (t : Time) (m : Memory) → n ≤ room → output_refusal n t room m ≡ look_refusal false t m
+unfolding sized_refusal output_refusal
+roomy n room t m h = rw (le-ltb room n h)
 
 -- ---- a look at memory
 

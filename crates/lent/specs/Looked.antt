@@ -72,13 +72,15 @@ blank_refusal a t m = look_refusal (past_end a) t m
 unfoldable pub blank_answer : ℕ → Time → Memory → ℕ
 blank_answer a t m = flag_byte (blank_at t (chip_in m) a)
 
--- 8: output too short for the image
-abbrev pub image_checks : Time → ℕ → Memory → List Check
-image_checks t room m =
-    sized_checks false t m.bytes (length m.array) (length m.charges) ++ check 8 (ltb room array_bytes) ∷ []
+-- 8: output too short for an answer of n bytes
+abbrev pub output_checks : ℕ → Time → ℕ → Memory → List Check
+output_checks n t room m = sized_checks false t m.bytes (length m.array) (length m.charges) ++ check 8 (ltb room n) ∷ []
+
+unfoldable pub output_refusal : ℕ → Time → ℕ → Memory → ℕ
+output_refusal n t room m = first_given (output_checks n t room m)
 
 unfoldable pub image_refusal : Time → ℕ → Memory → ℕ
-image_refusal t room m = first_given (image_checks t room m)
+image_refusal t room m = output_refusal array_bytes t room m
 
 -- output bytes past the answer stay
 abbrev pub image_left : ℕ → Time → Memory → List ℕ → List ℕ

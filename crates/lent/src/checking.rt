@@ -2,12 +2,11 @@
 ghost use Rattle.std.specs.Prelude.{◌≡◌, IfOk};
 ghost use Rattle.refusal.specs.Refusal.{told};
 ghost use Rattle.lent.specs.Memory.{sizes_misfit, past_end, last_second, time_refusal, too_few_words};
-ghost use Rattle.lent.specs.Asked.{call_of, misplaced, call_refusal};
+ghost use Rattle.lent.specs.Asked.{misplaced, call_refusal};
 
 use crate::{Asking, Request};
 use calling::settles;
 use cell::{CELLS, FLASH_SIZE, PAGE};
-use coding::state::mode_of;
 use flash::Flash;
 use layout::RECORD_LEN;
 use refusal::Refusal;
@@ -20,25 +19,6 @@ pub fn sizes_misfit(record: usize, array: usize, charges: usize) -> bool
     ensures { result ≡ sizes_misfit «record» array charges }
 {
     (record != RECORD_LEN) | (array != FLASH_SIZE) | (charges != CELLS)
-}
-
-pub fn call_of(request: Request) -> Call
-    ensures { result ≡ call_of request }
-{
-    match request {
-        Request::WriteRegister(a, v) => Call::WriteRegister(a, v),
-        Request::Write8(a, v) => Call::Write8(a, v),
-        Request::Read8(a) => Call::Read8(a),
-        Request::Read16(a) => Call::Read16(a),
-        Request::Protect => Call::Protect,
-        Request::Reset => Call::Reset,
-        Request::PowerOff => Call::PowerOff,
-        Request::Environment(mode, module, oscillator) => Call::Environment(
-            mode_of(mode),
-            module,
-            oscillator,
-        ),
-    }
 }
 
 // Whether an address lies past the array's end.
@@ -80,9 +60,7 @@ pub fn in_time(flash: &Flash, time: Time) -> Result<Accepted, Refusal>
     ensures told { told result ≡ time_refusal time flash.now }
     ensures asked { IfOk result (λ now. now.time ≡ time) }
 {
-    let Some(now) = time.accepted() else {
-        return Err(Refusal::LastSecond);
-    };
+    let now = time.accepted().ok_or(Refusal::LastSecond)?;
     if time.earlier(flash.pulse_since) {
         return Err(Refusal::TooEarly);
     }
@@ -101,7 +79,7 @@ pub fn call_refusal(flash: Flash, asking: Asking, words: usize) -> Result<Accept
     }
     let now = in_time(&flash, time)?;
     let registers = flash.registers;
-    if settles(registers, call_of(request), time) & too_few_words(registers.pulse(), words) {
+    if settles(registers, Call::from(request), time) & too_few_words(registers.pulse(), words) {
         return Err(Refusal::Events);
     }
     Ok(now)

@@ -7,8 +7,13 @@ pub mod making;
 pub mod memory;
 pub mod opening;
 
+ghost use Rattle.std.specs.Prelude.{◌≡◌};
+ghost use Rattle.lent.specs.Asked.{call_of};
+
 // What a call that is not refused answers.
+use coding::state::mode_of;
 pub use flash::Answer;
+use registers::Call;
 use time::Time;
 
 // The calls of the ledger as a host asks for them, with their arguments but the time: a mode is a number here, and may be none. One generic
@@ -23,6 +28,28 @@ pub enum Request {
     Reset,
     PowerOff,
     Environment(u8, bool, bool),
+}
+
+// The call that is asked for.
+impl From<Request> for Call {
+    ghost from_gives = { λ request call. call ≡ call_of request };
+
+    fn from(request: Request) -> Call {
+        match request {
+            Request::WriteRegister(a, v) => Call::WriteRegister(a, v),
+            Request::Write8(a, v) => Call::Write8(a, v),
+            Request::Read8(a) => Call::Read8(a),
+            Request::Read16(a) => Call::Read16(a),
+            Request::Protect => Call::Protect,
+            Request::Reset => Call::Reset,
+            Request::PowerOff => Call::PowerOff,
+            Request::Environment(mode, module, oscillator) => Call::Environment(
+                mode_of(mode),
+                module,
+                oscillator,
+            ),
+        }
+    }
 }
 
 // What a call asks for, and when.

@@ -1,9 +1,10 @@
 // Lent memory is opened once: its lengths and its record are tested, and the state that the record holds is read.
-ghost use Rattle.std.specs.Prelude.{ℕ, ◌≡◌, ◌<◌, false, OnOk, length};
-ghost use Rattle.refusal.specs.Refusal.{Answers};
+ghost use Rattle.std.specs.Prelude.{ℕ, ◌≡◌, ◌<◌, ◌≤◌, false, cond, IfOk, OnOk, length};
+ghost use Rattle.refusal.specs.Refusal.{told, Answers};
 ghost use Rattle.cell.specs.Cell.{at};
 ghost use Rattle.layout.specs.Layout.{record_length, decoded};
-ghost use Rattle.lent.specs.Looked.{register_refusal, memory_refusal, look_refusal};
+ghost use Rattle.lent.specs.Memory.{record_misfits, misfits};
+ghost use Rattle.lent.specs.Looked.{register_refusal, memory_refusal, look_refusal, output_refusal};
 ghost use Rattle.lent.specs.Views.{memory_in, Opens};
 
 use crate::checking::{in_time, sizes_misfit};
@@ -16,15 +17,21 @@ use layout::RECORD_LEN;
 use refusal::Refusal;
 use time::Time;
 
+// A record of its one length.
+pub fn sized_record(record: &[u8]) -> Result<&[u8; RECORD_LEN], Refusal>
+    ensures told { told result ≡ cond (record_misfits «record».now) 2 0 }
+    ensures same { IfOk result (λ sized. sized.now ≡ «record».now) }
+{
+    <&[u8; RECORD_LEN]>::try_from(record).map_err(|_| Refusal::Memory)
+}
+
 // The state of a record alone: nothing travels with it that a struct could hold.
 #[tactic(auto, unfolding(crate::specs::Looked::register_refusal))]
 pub fn opened_record(record: &[u8]) -> Result<Flash, Refusal>
     ensures told { Answers (register_refusal «record».now) (decoded «record».now) result }
     ensures bytes { OnOk result ((place : ℕ) → at «record».now place < 256) }
 {
-    let Ok(record) = <&[u8; RECORD_LEN]>::try_from(record) else {
-        return Err(Refusal::Memory);
-    };
+    let record = sized_record(record)?;
     if !accepts(record) {
         return Err(Refusal::Record);
     }
@@ -32,6 +39,13 @@ pub fn opened_record(record: &[u8]) -> Result<Flash, Refusal>
 }
 
 impl<'a> Lent<'a> {
+    // Whether it is of other lengths than its own.
+    pub fn misfits(self) -> bool
+        ensures { result ≡ misfits (memory_in self.entry) }
+    {
+        sizes_misfit(self.record.len(), self.array.len(), self.charges.len())
+    }
+
     // The state in lent memory, which fits it.
     #[tactic(auto, unfolding(crate::specs::Looked::register_refusal, crate::specs::Looked::memory_refusal))]
     pub fn opened(self) -> Result<Held<'a>, Refusal>
@@ -39,7 +53,7 @@ impl<'a> Lent<'a> {
         ensures long { OnOk result (length self.entry.«record».now ≡ record_length) }
         ensures bytes { OnOk result ((place : ℕ) → at self.entry.«record».now place < 256) }
     {
-        if sizes_misfit(self.record.len(), self.array.len(), self.charges.len()) {
+        if self.misfits() {
             return Err(Refusal::Memory);
         }
         let flash = opened_record(self.record)?;
@@ -61,6 +75,24 @@ impl<'a> Lent<'a> {
             return Err(Refusal::Place);
         }
         in_time(&held.flash, time)?;
+        Ok(held)
+    }
+
+    // The state for a look at a time that needs so many bytes of output and has some room.
+    #[tactic(auto, unfolding(crate::specs::Looked::sized_refusal, crate::specs::Looked::output_refusal))]
+    pub fn opened_with_room(
+        self,
+        time: Time,
+        needed: usize,
+        room: usize,
+    ) -> Result<Held<'a>, Refusal>
+        ensures told { Opens (output_refusal needed time room (memory_in self.entry)) (memory_in self.entry) result }
+        ensures room { OnOk result (needed ≤ room) }
+    {
+        let held = self.opened_at(false, time)?;
+        if room < needed {
+            return Err(Refusal::Output);
+        }
         Ok(held)
     }
 }

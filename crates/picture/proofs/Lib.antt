@@ -3,4 +3,3 @@
 pub mod Written
 pub mod Held
 pub mod Steps
-pub mod Roomed

@@ -11,7 +11,7 @@ ghost use Rattle.listing.specs.Replaying.{reads, stops, idle};
 ghost use Rattle.listing.specs.Held.{chip, Ready, leaves, Called, ended};
 
 use flash::Flash;
-use lent::checking::{call_of, call_refusal};
+use lent::checking::call_refusal;
 use lent::{Answer, Asking, Request};
 use light::run_light;
 use listing::{Replayed, call_at};
@@ -28,10 +28,7 @@ fn reads(request: Request) -> bool
 fn stops(request: Request, outcome: Result<Answer, Refusal>) -> bool
     ensures { result ≡ stops request (told outcome) (count_of outcome) }
 {
-    match outcome {
-        Ok(answer) => (answer.count != 0) | reads(request),
-        Err(_) => true,
-    }
+    outcome.map_or(true, |answer| (answer.count != 0) | reads(request))
 }
 
 // One call on the state that is held, which stays apart from what is lent, as `perform` takes it.
@@ -46,7 +43,7 @@ fn call_held(
     ensures { Called asking.request asking.time events.old (chip flash.old array.old charges.old) (chip flash.new array.new charges.new) events.new (told result) (value_of result) (count_of result) }
 {
     let now = call_refusal(*flash, asking, events.len())?;
-    let done = perform(*flash, array, charges, events, call_of(asking.request), now);
+    let done = perform(*flash, array, charges, events, asking.request.into(), now);
     *flash = done.flash;
     Ok(done.answer)
 }

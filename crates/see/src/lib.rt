@@ -70,15 +70,12 @@ pub fn see_blank(lent: Lent, address: u16, time: Time) -> Result<bool, Refusal>
 }
 
 // The image at a time, written to the output.
-#[tactic(auto, unfolding(lent::specs::Looked::sized_refusal, lent::specs::Looked::image_refusal))]
+#[tactic(auto, unfolding(lent::specs::Looked::image_refusal))]
 pub fn see_image(lent: Lent, time: Time, out: &mut [u8]) -> Result<(), Refusal>
     ensures refused { told result ≡ image_refusal time (length out.old) (memory_in lent.entry) }
     ensures left { out.new ≡ image_left (told result) time (memory_in lent.entry) out.old }
 {
-    let held = lent.opened_at(false, time)?;
-    if out.len() < FLASH_SIZE {
-        return Err(Refusal::Output);
-    }
+    let held = lent.opened_with_room(time, FLASH_SIZE, out.len())?;
     image(&held, time, out);
     Ok(())
 }

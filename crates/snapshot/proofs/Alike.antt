@@ -26,7 +26,7 @@ use Rattle.layout.proofs.Accepted.{accepted-sound}
 use Rattle.lent.specs.declared.Request.{Request}
 use Rattle.lent.specs.Memory.{Memory, chip_in, misfits}
 use Rattle.lent.specs.Asked.{call_of, refusal, outcome_by, outcome}
-use Rattle.lent.specs.Looked.{sized_refusal, look_refusal, charge_refusal, charge_answer, peek_refusal, peek_answer, blank_refusal, blank_answer, image_refusal, image_left}
+use Rattle.lent.specs.Looked.{sized_refusal, look_refusal, charge_refusal, charge_answer, peek_refusal, peek_answer, blank_refusal, blank_answer, output_refusal, image_refusal, image_left}
 use Rattle.lent.proofs.Fitted.{sizes-fit}
 use Rattle.snapshot.specs.Snapshot.{ChargePage, snapshot, place_of, slot_pages, state_fields, contents_of, snapshot_of}
 use Rattle.snapshot.specs.Claim.{in_use, SameOutcome, SameAnswers, Restored}
@@ -185,7 +185,7 @@ module _ (m : Memory) (qs : List ℕ) (long : length qs ≡ length m.charges)
       (pages-same (opened s.indices) 0 s.indices m.charges qs long (λ i h. used i (rw (zero-add (opened s.indices)) at h)))
 
   answers : SameAnswers m (memory_with qs m)
-  unfolding charge_refusal charge_answer charge_at peek_refusal peek_answer peek_at blank_refusal blank_answer blank_at image_refusal
+  unfolding charge_refusal charge_answer charge_at peek_refusal peek_answer peek_at blank_refusal blank_answer blank_at image_refusal output_refusal
   answers =
       let image : (t : Time) → SlotsOf (cells (chip_in m)) → image_at t (chip_with qs (chip_in m)) ≡ image_at t (chip_in m) = λ t inv. image-same (chip_in m) qs inv same t in
       record {

@@ -14,11 +14,11 @@ use Rattle.cell.proofs.Maps.{length-mapi}
 use Rattle.cell.proofs.Table.{entry}
 use Rattle.flash.specs.Looking.{image_at}
 use Rattle.lent.specs.Memory.{Memory, chip_in}
-use Rattle.lent.specs.Looked.{look_refusal, image_refusal, image_left}
+use Rattle.lent.specs.Looked.{look_refusal, output_refusal, image_refusal, image_left}
+use Rattle.lent.proofs.Looks.{roomy}
 use Rattle.text.specs.Puts.{Puts}
 use Rattle.picture.specs.Marks.{mark_at}
-use Rattle.picture.specs.Outputs.{output_refusal, written}
-use Rattle.picture.proofs.Roomed.{long-enough}
+use Rattle.picture.specs.Outputs.{written}
 use Rattle.picture.proofs.Written.{length-written, written_at}
 use Rattle.verdict.proofs.Images.{image-refusal, image-seen}
 use Rattle.verdict.specs.declared.Counts.{Counts}
@@ -45,8 +45,7 @@ module _ (t : Time) (m : Memory) where
   -- ---- the marks
 
   pub marks-refusal : (room : ℕ) → room ≡ 384 → output_refusal 384 t room m ≡ look_refusal false t m
-  unfolding output_refusal
-  marks-refusal room l = long-enough 384 room (look_refusal false t m) (omega arith)
+  marks-refusal room l = roomy 384 room t m (omega arith)
 
   pub marks-shown : (out left : List ℕ) → length out ≡ 384 → left ≡ written (mark_at t (chip_in m)) 384 out → left ≡ marks_at t (chip_in m)
   unfolding marks_at

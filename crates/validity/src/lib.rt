@@ -11,8 +11,7 @@ use checks::{legible, placed};
 use coding::read;
 use control::PendingSense;
 use flash::Flash;
-use layout::RECORD_LEN;
-use lent::checking::last_second;
+use lent::opening::sized_record;
 use refusal::Refusal;
 use time::Time;
 
@@ -41,14 +40,10 @@ pub fn valid(time: Time, flash: Flash) -> bool
 pub fn see_valid(record: &[u8], time: Time) -> Result<bool, Refusal>
     ensures { Answers (valid_refusal «record».now time) (valid time (decoded «record».now)) result }
 {
-    let Ok(record) = <&[u8; RECORD_LEN]>::try_from(record) else {
-        return Err(Refusal::Memory);
-    };
+    let record = sized_record(record)?;
     if !legible(record) {
         return Err(Refusal::Record);
     }
-    if last_second(time) {
-        return Err(Refusal::LastSecond);
-    }
+    time.accepted().ok_or(Refusal::LastSecond)?;
     Ok(valid(time, read(record)))
 }

@@ -3,7 +3,7 @@
 use mathlib.Core.Path.{◌≡◌, refl, sym, ◌∙◌}
 use mathlib.Core.Bool.{false}
 use mathlib.Core.List.{List, append-nil}
-use Prim.Native.Nat.{ℕ, zero, suc}
+use Prim.Native.Nat.{ℕ}
 use native.Mathlib.Nat.{zero-add}
 use native.Mathlib.Omega.{arith}
 use lib.ListN.{length}
@@ -16,18 +16,15 @@ use Rattle.flash.specs.Chip.{registers, cells}
 use Rattle.flash.specs.Looking.{image_at}
 use Rattle.lent.specs.Memory.{Memory, chip_in}
 use Rattle.lent.specs.Looked.{look_refusal, image_refusal, image_left}
-use Rattle.lent.proofs.Looks.{looks, image-first, image-done}
+use Rattle.lent.proofs.Looks.{roomy, looks}
 
 image-alone : (image out : List ℕ) → length image ≡ length out → sets out 0 image ≡ image
 image-alone image out e = sets-eq image out 0 (omega arith) ∙ rw (zero-add (length image), e, drop-length out, append-nil image)
 
 module _ (t : Time) (m : Memory) where
   pub image-refusal : (room : ℕ) → room ≡ array_bytes → image_refusal t room m ≡ look_refusal false t m
-  image-refusal room h = by (look_refusal false t m) refl
-    where
-      by : (n : ℕ) → n ≡ look_refusal false t m → image_refusal t room m ≡ n
-      by zero e = sym (image-done t room m e refl (omega arith))
-      by (suc n) e = sym (image-first t room m e (λ z. omega arith))
+  unfolding image_refusal
+  image-refusal room h = roomy array_bytes room t m (omega arith)
 
   image-long : look_refusal false t m ≡ 0 → length (image_at t (chip_in m)) ≡ array_bytes
   unfolding image_at

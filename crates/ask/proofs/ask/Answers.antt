@@ -22,11 +22,11 @@ pub perform-done-requires : goal.perform-done-requires
 perform-done-requires c =
     let h = holds c.in_ok-flash.field-0 _ _ c.seen.ensures c.in_ok-flash.ensures.told.1 in
     let p = passes _ _ _ _ (sym c.in_ok-now.ensures.told) in
-    (h.fits, rw c.call_of.ensures p.placed_is, rw (c.call_of.ensures, c.in_ok-now.ensures.asked) p.enough)
+    (h.fits, rw c.into.ensures p.placed_is, rw (c.into.ensures, c.in_ok-now.ensures.asked) p.enough)
 
 pub returns : goal.returns
 returns c =
     let o = c.in_ok-flash.ensures.told in
     let f = (holds c.in_ok-flash.field-0 _ _ c.seen.ensures o.1).flash_is in
-    let t = told-done _ _ _ _ (rw c.seen.ensures at o.0) (rw f at c.in_ok-now.ensures.told) (rw (f, c.call_of.ensures, c.in_ok-now.ensures.asked) at c.perform-done.ensures) c.write.ensures in
+    let t = told-done _ _ _ _ (rw c.seen.ensures at o.0) (rw f at c.in_ok-now.ensures.told) (rw (f, c.into.ensures, c.in_ok-now.ensures.asked) at c.perform-done.ensures) c.write.ensures in
     record { same = record { same_record = refl; same_array = refl; same_charges = refl }; left = t.0; value = t.1; limit = t.2 }

@@ -14,8 +14,8 @@ returns-in_err-now c =
 pub perform-done-requires : goal.perform-done-requires
 perform-done-requires c =
     let p = passes _ _ _ _ (sym c.in_ok-now.ensures.told) in
-    (ready-fit _ c.requires.0, rw c.call_of.ensures p.placed_is, rw (c.call_of.ensures, c.in_ok-now.ensures.asked) p.enough)
+    (ready-fit _ c.requires.0, rw c.into.ensures p.placed_is, rw (c.into.ensures, c.in_ok-now.ensures.asked) p.enough)
 
 pub returns : goal.returns
 returns c =
-    call-done _ c.requires.0 _ _ _ (sym c.in_ok-now.ensures.told) c.requires.1 c.requires.2 (rw (c.call_of.ensures, c.in_ok-now.ensures.asked) at c.perform-done.ensures)
+    call-done _ c.requires.0 _ _ _ (sym c.in_ok-now.ensures.told) c.requires.1 c.requires.2 (rw (c.into.ensures, c.in_ok-now.ensures.asked) at c.perform-done.ensures)

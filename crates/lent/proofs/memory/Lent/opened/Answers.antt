@@ -6,4 +6,4 @@ use Rattle.lent.proofs.memory.Lent.opened.Goals as goal
 pub invariant_of-result : goal.invariant_of-result
 invariant_of-result c =
     let a = c.in_ok-flash.ensures.told in
-    record { fit = opens _ _ (sym c.sizes_misfit.ensures ∙ c.if-sizes_misfit.false) a.0 a.1 }
+    record { fit = opens _ _ (sym c.misfits.ensures ∙ c.if-misfits.false) a.0 a.1 }
