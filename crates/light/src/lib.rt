@@ -11,7 +11,6 @@ use crate::writing::{settings_of, with_settings, write};
 use bits::{E, ESU, FENR, P, PSU, SWE, has};
 use control::Supply;
 use flash::Flash;
-use lent::checking::last_second;
 use listing::{KIND, NUMBERS, first_in, second_in};
 use registers::Registers;
 use time::Time;
@@ -58,7 +57,7 @@ fn opens(may: bool, control: u8) -> bool
 fn is_light(may: bool, control: u8, since: Time, what: u64, now: Time) -> bool
     ensures { result ≡ is_light may control since what now }
 {
-    (what < KIND) & !last_second(now) & !now.earlier(since) & !opens(may, control)
+    (what < KIND) & now.accepted().is_some() & !now.earlier(since) & !opens(may, control)
 }
 
 // One of two numbers. An instant is picked by halves: picked whole it would go through memory.
@@ -126,10 +125,8 @@ pub fn run_light(flash: Flash, calls: &[u64], from: usize, end: usize) -> Ahead
     requires { 3 * end ≤ length calls.now }
     ensures { Onward end calls.now from flash result.done result.flash }
 {
-    let registers = flash.registers;
-    let pending = registers.verify_pending;
-    match pending {
-        None => run_writes(flash, calls, from, end),
-        Some(_) => Ahead { flash, done: from },
+    if flash.registers.verify_pending.is_some() {
+        return Ahead { flash, done: from };
     }
+    run_writes(flash, calls, from, end)
 }
