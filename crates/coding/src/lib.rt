@@ -7,35 +7,26 @@ ghost use Rattle.std.specs.Prelude.{◌≡◌, ◌++◌, length, take};
 ghost use Rattle.layout.specs.Layout.{record_length, encoded, decoded, head_of, addresses_of, halves_of, row_bytes};
 
 use crate::state::{addresses_of, halves_of, head_of, registers_of};
-use cell::{PAGE, PAGES};
 use flash::Flash;
 use layout::{ADDRESSES, HALVES, INDICES, LATCH, RECORD_LEN, SENSED};
 use registers::Registers;
-use rows::{get_row, put_row};
+use rows::{put_row, row_at};
 use time::Time;
 
 // The state that a record holds.
 pub fn read(record: &[u8; RECORD_LEN]) -> Flash
     ensures { result ≡ decoded «record».now }
 {
-    let mut head = [0u8; 10];
-    get_row(record, 0, &mut head);
-    let mut addresses = [0u16; 2];
-    get_row(record, ADDRESSES, &mut addresses);
-    let mut halves = [0u64; 16];
-    get_row(record, HALVES, &mut halves);
-    let mut latch = [0u8; PAGE];
-    get_row(record, LATCH, &mut latch);
-    let mut sensed = [0u8; 4];
-    get_row(record, SENSED, &mut sensed);
-    let mut indices = [0u16; PAGES];
-    get_row(record, INDICES, &mut indices);
+    let head = row_at(record, 0);
+    let addresses = row_at(record, ADDRESSES);
+    let halves: [u64; 16] = row_at(record, HALVES);
+    let latch = row_at(record, LATCH);
     let registers = registers_of(head, addresses, halves, latch);
     Flash {
         registers,
         pulse_since: Time(halves[12], halves[13]),
-        sensed,
-        indices,
+        sensed: row_at(record, SENSED),
+        indices: row_at(record, INDICES),
     }
 }
 

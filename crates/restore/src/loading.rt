@@ -5,12 +5,12 @@ ghost use Rattle.std.proofs.lemmas.List.Edits.{sets};
 ghost use Rattle.cell.specs.Cell.{array_cells, pages};
 ghost use Rattle.snapshot.specs.Places.{page_at, pages_place, pages_cells, time_at, pending_at, registers_at, flash_at};
 
-use cell::{PAGE, PAGE_CELLS, PAGES};
+use cell::{PAGE_CELLS, PAGES};
 use coding::state::{mode_of, supply_of};
 use control::PendingSense;
 use flash::Flash;
 use registers::Registers;
-use rows::get_row;
+use rows::{get_row, row_at};
 use rows::numbers::Number;
 use scan::state::StateAt;
 use snapshot::{
@@ -51,15 +51,13 @@ fn registers_at(state: StateAt) -> Registers
 {
     let pending = pending_at(state);
     let StateAt { bytes, at } = state;
-    let mut latch = [0u8; PAGE];
-    get_row(bytes, at + LATCH, &mut latch);
     Registers {
         control: bytes[at],
         error: bytes[at + ERROR] == 1,
         erase: bytes[at + ERASE],
         enabled: bytes[at + ENABLED] == 1,
         power_down_disabled: bytes[at + POWER_DOWN_DISABLED] == 1,
-        latch: latch,
+        latch: row_at(bytes, at + LATCH),
         page: u16::get(bytes, at + LATCH_PAGE),
         supply: supply_of(bytes[at + SUPPLY]),
         oscillator: bytes[at + OSCILLATOR] == 1,
@@ -82,8 +80,7 @@ pub fn flash_at(state: StateAt, indices: [u16; PAGES]) -> Flash
 {
     let registers = registers_at(state);
     let since = time_at(state.bytes, state.at + PULSE_SINCE);
-    let mut sensed = [0u8; 4];
-    get_row(state.bytes, state.end() - sensed.len(), &mut sensed);
+    let sensed = row_at(state.bytes, state.end() - 4);
     Flash {
         registers: registers,
         pulse_since: since,

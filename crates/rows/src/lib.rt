@@ -7,6 +7,19 @@ ghost use Rattle.std.specs.Prelude.{◌≡◌, ◌++◌, ◌+◌, ◌*◌, ◌�
 ghost use Rattle.layout.specs.Layout.{row, row_bytes};
 
 use crate::numbers::Number;
+use std::array::from_fn;
+
+// A row of a length that is known, as an array.
+pub fn row_at<N: Number, const L: usize>(from: &[u8], at: usize) -> [N; L]
+    requires { at + N.WIDTH * L ≤ length from.now }
+    ensures { N.numbers result ≡ row L N.WIDTH at from.now }
+{
+    from_fn(|k|
+        requires { at + N.WIDTH * (k + 1) ≤ length from.now }
+    {
+        N::get(from, at + N::WIDTH * k)
+    })
+}
 
 // The numbers of a row that begins at a place.
 pub fn get_row<N: Number>(from: &[u8], at: usize, out: &mut [N])
