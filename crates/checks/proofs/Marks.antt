@@ -1,17 +1,17 @@
 -- The page index walked: testing its entries from the last one down. What is true of
 -- the entries passed goes over to one more; what fails at one of them fails for the whole index; an index without opened pages is sound.
 -- Assumes nothing.
-use mathlib.Core.Path.{◌≡◌, refl, sym, ◌∙◌}
+use mathlib.Core.Path.{◌≡◌, refl, sym, ap, ◌∙◌}
 use mathlib.Core.Bool.{Bool, true, false, not, ◌&&◌, ◌||◌}
-use mathlib.Core.List.{List, [], ◌∷◌}
+use mathlib.Core.List.{List, [], ◌∷◌, ◌++◌, append_assoc, append-nil}
 use Prim.Native.Nat.{ℕ, zero, suc, ◌<◌, ◌≤◌}
 use native.Mathlib.Omega.{arith}
 use native.Mathlib.Decide.{ℕ_discrete}
 use borrow.Author.Tests.{eq-eqb, ne_eqb, le-leb, lt-leb}
 use lib.Dec.{leb, eqb}
-use lib.ListN.{length, get_or, set, drop, replicate, get_or-replicate}
-use lib.Seq.{drop-cons, drop-length, get_or-set_same, get_or-set_other}
-use Rattle.cell.specs.Cell.{at}
+use lib.ListN.{length, get_or, set, replicate, get_or-replicate}
+use lib.Seq.{get_or-set_same, get_or-set_other}
+use Rattle.std.specs.List.{push}
 use Rattle.settle.specs.Pages.{opened, holds, distinct, within, slots_sound}
 
 -- an entry is marked if it is a slot's and the list has it
@@ -22,17 +22,15 @@ and-false : (b : Bool) → (b && false) ≡ false
 and-false true = refl
 and-false false = refl
 
-within-whole : (n i : ℕ) (xs : List ℕ) → within n (drop i xs) ≡ false → within n xs ≡ false
+within-whole : (n : ℕ) (front passed : List ℕ) → within n passed ≡ false → within n (front ++ passed) ≡ false
 unfolding within
-within-whole n zero xs h = h
-within-whole n (suc i) [] h = h
-within-whole n (suc i) (x ∷ xs) h = rw (within-whole n i xs h) (and-false (leb x n))
+within-whole n [] passed h = h
+within-whole n (x ∷ front) passed h = rw (within-whole n front passed h) (and-false (leb x n))
 
-distinct-whole : (i : ℕ) (xs : List ℕ) → distinct (drop i xs) ≡ false → distinct xs ≡ false
+distinct-whole : (front passed : List ℕ) → distinct passed ≡ false → distinct (front ++ passed) ≡ false
 unfolding distinct
-distinct-whole zero xs h = h
-distinct-whole (suc i) [] h = h
-distinct-whole (suc i) (x ∷ xs) h = rw (distinct-whole i xs h) (and-false (eqb x 0 || not (holds x xs)))
+distinct-whole [] passed h = h
+distinct-whole (x ∷ front) passed h = rw (distinct-whole front passed h) (and-false (eqb x 0 || not (holds x (front ++ passed))))
 
 -- a page is free to have the entry x, as the mark says
 unmarked : (x : ℕ) (xs : List ℕ) (b : Bool) → mark x xs ≡ b → (eqb x 0 || not (holds x xs)) ≡ not b
@@ -42,57 +40,60 @@ unmarked x xs b e = by (eqb x 0) (holds x xs) e
     by true h e = rw (← e)
     by false h e = rw (← e)
 
--- what the walk knows at page i: the entries from there on are within n, distinct, and marked
-pub record Passed (n i : ℕ) (xs : List ℕ) (marked : List Bool) : Type 0 where
-  pub inside : within n (drop i xs) ≡ true
-  pub apart : distinct (drop i xs) ≡ true
-  pub marks : (k : ℕ) → k < 385 → get_or marked k false ≡ mark k (drop i xs)
+-- what the walk knows with a part of the index left: the entries passed are within n, distinct, and marked
+pub record Walked (n : ℕ) (xs left : List ℕ) (marked : List Bool) : Type 0 where
+  pub passed : List ℕ
+  pub whole : left ++ passed ≡ xs
+  pub inside : within n passed ≡ true
+  pub apart : distinct passed ≡ true
+  pub marks : (k : ℕ) → k < 385 → get_or marked k false ≡ mark k passed
 
-pub none_passed : (n i : ℕ) (xs : List ℕ) → length xs ≡ i → Passed n i xs (replicate 385 false)
+pub none_passed : (n : ℕ) (xs : List ℕ) → Walked n xs xs (replicate 385 false)
 unfolding within distinct holds
-none_passed n i xs e =
-    let d : drop i xs ≡ [] = rw (← e) (drop-length xs) in
-    record { inside = rw d; apart = rw d; marks = λ k h. rw d (get_or-replicate 385 k false false h ∙ sym (and-false (not (eqb k 0)))) }
+none_passed n xs =
+    record { passed = []; whole = append-nil xs; inside = refl; apart = refl; marks = λ k h. get_or-replicate 385 k false false h ∙ sym (and-false (not (eqb k 0))) }
 
-module _ (n i : ℕ) (xs : List ℕ) (h : i < length xs) where
+module _ (n : ℕ) (xs left front : List ℕ) (x : ℕ) (marked : List Bool) (w : Walked n xs left marked) (last : left ≡ push front x) where
+  split : front ++ (x ∷ w.passed) ≡ xs
+  split = sym (append_assoc front (x ∷ []) w.passed) ∙ (ap (λ l. l ++ w.passed) (sym last) ∙ w.whole)
+
   -- an entry past n
-  pub past : n < at xs i → n ≡ opened xs → slots_sound xs ≡ false
+  pub past : n < x → n ≡ opened xs → slots_sound xs ≡ false
   unfolding slots_sound within
-  past l e = rw (← e, within-whole n i xs (rw (drop-cons xs i 0 h, lt-leb (at xs i) n l)))
+  past l e = let beyond = within-whole n front (x ∷ w.passed) (rw (lt-leb x n l)) in rw (← e, rw split at beyond)
 
   -- an entry that a page passed has
-  pub twice : mark (at xs i) (drop (suc i) xs) ≡ true → slots_sound xs ≡ false
+  pub twice : x < 385 → get_or marked x false ≡ true → slots_sound xs ≡ false
   unfolding slots_sound distinct
-  twice m = rw (distinct-whole i xs (rw (drop-cons xs i 0 h, unmarked (at xs i) (drop (suc i) xs) true m))) (and-false (within (opened xs) xs))
+  twice h m =
+      let again = distinct-whole front (x ∷ w.passed) (rw (unmarked x w.passed true (sym (w.marks x h) ∙ m))) in
+      rw (rw split at again) (and-false (within (opened xs) xs))
 
   -- one entry more
-  pub next : (marked : List Bool) → Passed n (suc i) xs marked → at xs i ≤ n → n < 385 → length marked ≡ 385 → mark (at xs i) (drop (suc i) xs) ≡ false
-      → Passed n i xs (set marked (at xs i) (not (eqb (at xs i) 0)))
+  pub next : x ≤ n → n < 385 → length marked ≡ 385 → get_or marked x false ≡ false → Walked n xs front (set marked x (not (eqb x 0)))
   unfolding within distinct holds
-  next marked p l b g m = record { inside = rw (d, le-leb x n l) p.inside; apart = rw (d, unmarked x rest false m) p.apart; marks = λ k f. rw d (by k f (ℕ_discrete k x)) }
+  next l b g m =
+      record {
+        passed = x ∷ w.passed;
+        whole = split;
+        inside = rw (le-leb x n l) w.inside;
+        apart = rw (unmarked x w.passed false (sym (w.marks x (omega arith)) ∙ m)) w.apart;
+        marks = λ k f. by k f (ℕ_discrete k x);
+      }
     where
-      x : ℕ
-      x = at xs i
-
-      rest : List ℕ
-      rest = drop (suc i) xs
-
-      d : drop i xs ≡ at xs i ∷ drop (suc i) xs
-      d = drop-cons xs i 0 h
-
-      same : (z c : Bool) → z ≡ true → (c && (z || holds (at xs i) (drop (suc i) xs))) ≡ c
+      same : (z c : Bool) → z ≡ true → (c && (z || holds x w.passed)) ≡ c
       same z true e = rw e
       same z false e = refl
 
-      by : (k : ℕ) → k < 385 → Dec (k ≡ at xs i)
-          → get_or (set marked (at xs i) (not (eqb (at xs i) 0))) k false ≡ (not (eqb k 0) && (eqb k (at xs i) || holds k (drop (suc i) xs)))
-      by k f (yes e) = rw e (get_or-set_same marked (at xs i) _ false (omega arith) ∙ sym (same _ _ (eq-eqb (at xs i) (at xs i) refl)))
-      by k f (no q) = get_or-set_other marked (at xs i) k _ false q ∙ p.marks k f ∙ rw (ne_eqb k (at xs i) q)
+      by : (k : ℕ) → k < 385 → Dec (k ≡ x) → get_or (set marked x (not (eqb x 0))) k false ≡ (not (eqb k 0) && (eqb k x || holds k w.passed))
+      by k f (yes e) = rw e (get_or-set_same marked x _ false (omega arith) ∙ sym (same _ _ (eq-eqb x x refl)))
+      by k f (no q) = get_or-set_other marked x k _ false q ∙ w.marks k f ∙ rw (ne_eqb k x q)
 
 -- all of them
-pub all-passed : (n : ℕ) (xs : List ℕ) (marked : List Bool) → Passed n 0 xs marked → n ≡ opened xs → slots_sound xs ≡ true
+pub all-passed : (n : ℕ) (xs left : List ℕ) (marked : List Bool) → Walked n xs left marked → length left ≡ 0 → n ≡ opened xs → slots_sound xs ≡ true
 unfolding slots_sound
-all-passed n xs marked p e = rw (← e, p.inside, p.apart)
+all-passed n xs [] marked w l e = rw (← e, ← w.whole, w.inside, w.apart)
+all-passed n xs (x ∷ left) marked w l e = absurd (omega (arith, l))
 
 -- without opened pages all entries are 0
 zeros-sound : (xs : List ℕ) → opened xs ≡ 0 → (within 0 xs && distinct xs) ≡ true

@@ -3,36 +3,39 @@
 
 pub mod slots;
 
-ghost use Rattle.std.specs.Prelude.{◌≡◌, ◌≤◌};
+ghost use Rattle.std.specs.Prelude.{◌≡◌, ◌≤◌, leb};
+ghost use Rattle.std.specs.List.{list_all, zip};
 ghost use Rattle.layout.specs.Layout.{head_known, nothing_clear, placed, legible, in_range, accepted, rows_in};
 
 use crate::slots::slots_sound;
 use cell::{ARRAY_BYTES, PAGE_BYTES, PAGES};
 use layout::{ADDRESSES, INDICES, PENDING_INSTANT, RECORD_LEN};
-use rows::get_row;
+use rows::row_at;
 use rows::numbers::Number;
 use time::Time;
 
-// Each flag, supply, mode and option byte is one.
-#[tactic(auto, unfolding(layout::specs::Layout::head_known))]
-fn head_known(head: [u8; 10]) -> bool
-    ensures { result ≡ head_known head }
+// The most that each single byte of a state can be: those of flags, of the supply, of the mode and of the option are few, the others may be any.
+pub const LIMITS: [u8; 10] = [255, 1, 255, 1, 1, 2, 1, 5, 1, 1];
+
+// Whether each byte is at most its limit.
+fn within(bytes: &[u8], limits: &[u8]) -> bool
+    ensures { result ≡ list_all (λ e. leb e.0 e.1) (zip bytes.now limits.now) }
 {
-    (head[1] <= 1)
-        & (head[3] <= 1)
-        & (head[4] <= 1)
-        & (head[5] <= 2)
-        & (head[6] <= 1)
-        & (head[7] <= 5)
-        & (head[8] <= 1)
-        & (head[9] <= 1)
+    bytes.iter().zip(limits).all(|(byte, most)| byte <= most)
+}
+
+// Each flag, supply, mode and option byte is one.
+fn head_known(head: &[u8; 10]) -> bool
+    ensures { result ≡ head_known head.now }
+{
+    within(head, &LIMITS)
 }
 
 // With nothing pending, address and instant are 0.
 fn nothing_clear(option: u8, address: u16, instant: Time) -> bool
     ensures { result ≡ nothing_clear option address instant }
 {
-    (option == 1) | ((address == 0) & (instant.0 == 0) & (instant.1 == 0))
+    (option == 1) | ((address == 0) & (instant == Time(0, 0)))
 }
 
 // An address is aligned to a step, and not past the end.
@@ -47,15 +50,11 @@ pub fn placed(address: u16, step: u16) -> bool
 pub fn legible(record: &[u8; RECORD_LEN]) -> bool
     ensures { result ≡ legible (rows_in «record».now) }
 {
-    let mut head = [0u8; 10];
-    get_row(record, 0, &mut head);
-    let mut addresses = [0u16; 2];
-    get_row(record, ADDRESSES, &mut addresses);
-    let mut instant = [0u64; 2];
-    get_row(record, PENDING_INSTANT, &mut instant);
-    let mut indices = [0u16; PAGES];
-    get_row(record, INDICES, &mut indices);
-    head_known(head)
+    let head: [u8; 10] = row_at(record, 0);
+    let addresses: [u16; 2] = row_at(record, ADDRESSES);
+    let instant: [u64; 2] = row_at(record, PENDING_INSTANT);
+    let indices = row_at(record, INDICES);
+    head_known(&head)
         & nothing_clear(head[9], addresses[1], Time(instant[0], instant[1]))
         & slots_sound(&indices)
 }

@@ -17,8 +17,8 @@ pub fn slots_sound(indices: &[u16; PAGES]) -> bool
         return true;
     }
     let mut marked = [false; ENTRIES];
-    for i in (0..PAGES).rev() {
-        let entry = usize::from(indices[i]);
+    for entry in indices.iter().rev() {
+        let entry = usize::from(*entry);
         if used < entry {
             return false;
         }

@@ -25,4 +25,4 @@ told xs h a v n p q r ep eq er eh ea ev en = rw (ep, eq, er, eh, ea, ev, en, las
 
 pub returns : goal.returns
 returns c =
-    told _ _ _ _ _ _ _ _ c.head_known.ensures c.nothing_clear.ensures c.slots_sound.ensures c.get_row.ensures c.get_row-2.ensures c.get_row-3.ensures c.get_row-4.ensures
+    told _ _ _ _ _ _ _ _ c.head_known.ensures c.nothing_clear.ensures c.slots_sound.ensures c.row_at-head.ensures c.row_at-addresses.ensures c.row_at-instant.ensures c.row_at-indices.ensures
