@@ -2,10 +2,17 @@
 -- one of many by the highest bit of all those numbers together, since among charges that are all there the first refusal and any refusal
 -- are the same 10. A row that is cut has the number of those that are there, or else 9. A page goes by quarters.
 -- Assumes nothing.
-use Rattle.std.proofs.Common.{◌≡◌, ℕ, zero, suc, ◌+◌, ◌-◌, ◌*◌, ◌%◌, ◌^◌, ◌<◌, ◌≤◌, ◌/◌, min, Bool, true, false, cond, ltb, leb, List, length, sym, refl, ◌∙◌, add-zero, add-suc, mul-zero, arith, ltb-false, ltb-true, le-ltb, lt-ltb, leb-false, leb-true}
+use Rattle.std.proofs.Common.{◌≡◌, ℕ, zero, suc, ◌+◌, ◌-◌, ◌*◌, ◌%◌, ◌^◌, ◌<◌, ◌≤◌, ◌/◌, min, Bool, true, false, cond, ltb, leb, List, [], length, take, drop, get_or, sym, ap, refl, ◌∙◌, add-zero, add-suc, mul-zero, arith, ltb-false, ltb-true, le-ltb, lt-ltb, leb-false, leb-true}
 use lib.Bits.{bit_and, bit_or, and_le_l, and_le_r, or_lt, or_add_and}
 use native.Mathlib.Decide.{ℕ_discrete}
+use native.Mathlib.Nat.{add_assoc}
+use Rattle.std.specs.Int.{byte_worth, sum_through}
+use Rattle.std.specs.Simd.{first_chunks}
+use lib.Seq.{get_or-take, get_or-drop, length-take-le}
+use Rattle.std.proofs.lemmas.List.{length-drop}
 use Rattle.cell.specs.Cell.{FULL, page_cells}
+use Rattle.cell.proofs.Chunks.{chunk-at}
+use Rattle.rows.proofs.Bytes.{worth}
 use Rattle.layout.specs.Layout.{word}
 use Rattle.snapshot.specs.Asked.{first}
 use Rattle.snapshot.specs.Places.{cell_number, cells_number}
@@ -115,6 +122,27 @@ module _ {count : ℕ} {xs : List ℕ} {start all i : ℕ} (l : Looked count xs 
       let p : start + 8 * (i + 1) ≡ start + 8 * i + 8 = omega arith in
       let c : cell_number xs (start + 8 * i) ≡ ten b = cell-ten xs (start + 8 * i) b (omega arith) e in
       record { most = omega arith; rest = l.rest ∙ rw (n, p, cells-next (count - (i + 1)), c, ← first-assoc, first-ten) }
+
+-- the charges cut out of their row are as many, and are those that stand there
+module _ (xs : List ℕ) (place count : ℕ) (charges : List (List ℕ)) (there : place + 8 * count ≤ length xs) where
+  abbrev rest : List ℕ
+  rest = take (length xs - place) (drop place xs)
+
+  long : length rest ≡ length xs - place
+  long = length-take-le (length xs - place) (drop place xs) (omega (arith, length-drop place xs))
+
+  pub as-many : length charges ≡ length rest / 8 → length (take count charges) ≡ count
+  as-many e = length-take-le count charges (omega (arith, e, long))
+
+  pub charge-there : charges ≡ first_chunks 8 (length rest / 8) rest → (i : ℕ) → i < count
+      → sum_through (λ k. byte_worth k (get_or (get_or (take count charges) i []) k 0)) 7 ≡ word 8 xs (place + 8 * i)
+  charge-there e i h = worth xs (get_or (take count charges) i []) (place + 8 * i) 7 (λ k l.
+      let same : i * 8 + k ≡ 8 * i + k = omega arith in
+      ap (λ c. get_or c k 0) (get_or-take count charges i [] h ∙ ap (λ cs. get_or cs i []) e)
+      ∙ chunk-at 8 (length rest / 8) i rest (omega (arith, long)) k (omega arith)
+      ∙ get_or-take (length xs - place) (drop place xs) (i * 8 + k) 0 (omega arith)
+      ∙ get_or-drop place xs (i * 8 + k) 0
+      ∙ rw (same, add_assoc))
 
 -- ---- a page by quarters, after so many of them
 

@@ -13,11 +13,10 @@ ghost use Rattle.snapshot.specs.Places.{pages_place, count_in, cells_number, add
 
 use crate::scanned::Scanned;
 use cell::{FULL, PAGE, PAGE_BYTES, PAGES};
-use checks::placed;
+use checks::{LIMITS, placed};
 use refusal::Refusal;
 use rows::numbers::Number;
 use snapshot::{COUNT, FIRST_PAGE, PENDING, SENSE_LEN, STATE_LEN, SUPPLY, page_at};
-use std::num::wrapping_sub_u64;
 
 // The highest bit of a charge.
 const TOP: u64 = 9223372036854775808;
@@ -31,7 +30,7 @@ const QUARTERS: usize = 4;
 fn over(charge: u64) -> u64
     ensures { nat_lt result (2 ^ 63) ≡ nat_le charge FULL }
 {
-    charge & wrapping_sub_u64(FULL, charge)
+    charge & FULL.wrapping_sub(charge)
 }
 
 // Whether none of so many charges in a row is over FULL. Each is looked at, so that no turn of the loop asks whether to go on.
@@ -39,9 +38,10 @@ fn none_over(bytes: &[u8], at: usize, count: usize) -> bool
     requires { at + 8 * count ≤ length bytes.now }
     ensures { cells_number count bytes.now at ≡ (if result then 0 else 10) }
 {
+    let (charges, _) = bytes[at..].as_chunks::<8>();
     let mut all: u64 = 0;
-    for i in 0..count {
-        all |= over(u64::get(bytes, at + 8 * i));
+    for charge in &charges[..count] {
+        all |= over(u64::from_le_bytes(*charge));
     }
     all < TOP
 }
@@ -160,14 +160,11 @@ fn check_state(bytes: &[u8], at: usize) -> Result<(), Refusal>
     requires { at < 2 ^ 31 }
     ensures { told result ≡ state_number bytes.now at }
 {
-    let controls = [255u8, 1, 255, 1, 1];
-    let supplies = [2u8, 1, 5, 1];
-    let option = [1u8];
-    check_bytes(bytes, at, &controls)?;
+    check_bytes(bytes, at, &LIMITS[..5])?;
     check_end(bytes, at + SUPPLY)?;
-    check_bytes(bytes, at + SUPPLY, &supplies)?;
+    check_bytes(bytes, at + SUPPLY, &LIMITS[5..9])?;
     check_end(bytes, at + PENDING)?;
-    check_bytes(bytes, at + PENDING, &option)?;
+    check_bytes(bytes, at + PENDING, &LIMITS[9..])?;
     check_end(bytes, at + state_length(bytes, at))
 }
 

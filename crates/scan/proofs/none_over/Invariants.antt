@@ -3,5 +3,5 @@
 use Rattle.scan.proofs.Charges.{Looked}
 use Rattle.scan.proofs.none_over.Given as goal
 
-abbrev pub invariant-loop-i : goal.invariant-loop-i
-invariant-loop-i l = Looked l.count l.bytes l.at l.all l.i
+abbrev pub invariant-loop-charge : goal.invariant-loop-charge
+invariant-loop-charge l = Looked l.count l.bytes l.at l.all l.charge-index

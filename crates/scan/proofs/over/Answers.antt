@@ -4,4 +4,4 @@ use Rattle.scan.proofs.Charges.{over-top}
 use Rattle.scan.proofs.over.Goals as goal
 
 pub returns : goal.returns
-returns c = over-top c.args.charge c.wrapping_sub_u64.result (omega arith) (omega arith) c.wrapping_sub_u64.ensures.value
+returns c = over-top c.args.charge _ (omega arith) (omega arith) (omega arith)
