@@ -6,13 +6,16 @@ use mathlib.Core.Logic.{◌≢◌}
 use mathlib.Core.Bool.{true}
 use mathlib.Core.List.{List, [], ◌∷◌, ◌++◌, append_assoc, append-nil}
 use Prim.Native.Nat.{ℕ, zero, suc, ◌+◌, ◌-◌, ◌*◌, ◌≤◌, ◌<◌}
-use native.Mathlib.Nat.{add-zero, zero-add}
+use native.Mathlib.Nat.{add-zero, zero-add, zero-mul}
 use native.Mathlib.Numerals.{add-one}
 use native.Mathlib.Omega.{arith}
 use native.Mathlib.Decide.{ℕ_discrete}
 use borrow.Author.Tests.{eq-eqb, ne_eqb}
-use lib.ListN.{length, set, take, drop, replicate, length-take, length-drop, length-replicate, get_or-eq_default}
-use lib.Seq.{take_all, drop-cons, get_or-set_same, get_or-set_other}
+use lib.ListN.{length, get_or, set, take, drop, replicate, length-take, length-drop, length-replicate, get_or-eq_default}
+use lib.Seq.{take_all, drop-cons, get_or-append_seam, get_or-set_same, get_or-set_other}
+use Rattle.std.proofs.lemmas.List.{length_push, length-append, drop-drop}
+use Rattle.std.specs.List.{push}
+use Rattle.std.specs.Simd.{first_chunks}
 use Rattle.cell.specs.Cell.{at}
 use Rattle.settle.specs.Pages.{opened, slots_sound}
 use Rattle.settle.proofs.Slots.{slots-from}
@@ -26,6 +29,25 @@ use Rattle.snapshot.proofs.Index.{length-slot_pages}
 use Rattle.save.proofs.Runs.{write_all-bytes}
 
 -- ---- which page has a slot
+
+-- what is left of a list that is gone over from its end: its front, and the rest was passed
+abbrev pub Front : List ℕ → List ℕ → Type 0
+Front xs left = (passed : List ℕ) × (left ++ passed ≡ xs)
+
+-- the last item of what is left is the one at its place
+module _ (xs left front : List ℕ) (x : ℕ) (f : Front xs left) (last : left ≡ push front x) where
+  pub front-next : Front xs front
+  front-next = (x ∷ f.0, sym (append_assoc front (x ∷ []) f.0) ∙ (ap (λ l. l ++ f.0) (sym last) ∙ f.1))
+
+  pub last-place : suc (length front) ≡ length left
+  last-place = sym (ap length last ∙ length_push front x ∙ add-one (length front))
+
+  pub last-within : length front < length xs
+  last-within = omega (arith, last-place, sym (ap length f.1) ∙ length-append left f.0)
+
+  pub last-at : at xs (length front) ≡ x
+  unfolding front-next
+  last-at = ap (λ l. at l (length front)) (sym front-next.1) ∙ get_or-append_seam front x f.0 0
 
 -- each slot that a page from i on has, by the first such page
 pub record Owned (i : ℕ) (xs found : List ℕ) : Type 0 where
@@ -83,6 +105,14 @@ pub page_inside : (n m : ℕ) → n < m → page_at n + 8194 ≤ page_at m
 unfolding page_at
 page_inside n m h = omega arith
 
+-- a chunk is a stretch
+pub chunk-stretch : (w n i : ℕ) (xs : List ℕ) → i < n → get_or (first_chunks w n xs) i [] ≡ take w (drop (i * w) xs)
+chunk-stretch w zero i xs h = absurd (omega arith)
+chunk-stretch w (suc n) zero xs h = rw (zero-mul w) refl
+chunk-stretch w (suc n) (suc i) xs h =
+    let e : w + i * w ≡ suc i * w = omega arith in
+    chunk-stretch w n i (drop w xs) (omega arith) ∙ ap (take w) (drop-drop (i * w) w xs ∙ ap (λ k. drop k xs) e)
+
 module _ (index charges : List ℕ) where
   -- the bytes of n charge pages from slot s on
   abbrev pub page_run : ℕ → ℕ → List ℕ
@@ -103,15 +133,14 @@ module _ (index charges : List ℕ) where
 
   -- the cells of slot n, as a stretch of the charges
   abbrev stretch : ℕ → List ℕ
-  stretch n = take (n * 1024 + 1024 - n * 1024) (drop (n * 1024) charges)
+  stretch n = take 1024 (drop (n * 1024) charges)
 
   -- one page more: its address, then its cells
   pub pages-more : (n p q v : ℕ) (l l₁ l₂ ys : List ℕ) → p ≡ page_at n → q ≡ page_at n → v ≡ place_of (suc n) index * 128
       → n * 1024 + 1024 ≤ length charges → take (p + 2) l₁ ≡ take p l ++ bytes 2 v
-      → take (q + 2 + 8 * length (stretch n)) l₂ ≡ take (q + 2) l₁ ++ row_bytes 8 (stretch n) → take (page_at n) l ≡ ys ++ page_run n 0
+      → (cells : List ℕ) → cells ≡ stretch n → take (q + 2 + 8 * length cells) l₂ ≡ take (q + 2) l₁ ++ row_bytes 8 cells → take (page_at n) l ≡ ys ++ page_run n 0
       → take (page_at (n + 1)) l₂ ≡ ys ++ page_run (n + 1) 0
-  pages-more n p q v l l₁ l₂ ys i j a k f g h =
-      let w : n * 1024 + 1024 - n * 1024 ≡ 1024 = omega arith in
+  pages-more n p q v l l₁ l₂ ys i j a k f cells w g h =
       let m : length (take 1024 (drop (n * 1024) charges)) ≡ 1024 = simp (length-take, length-drop) (omega arith) in
       let e : page_at (n + 1) ≡ page_at n + 2 + 8 * 1024 = omega (arith, page-next n) in
       rw (e, rw (j, w, m) at g, rw i at f, h, add-one n, page_run-suc n 0, zero-add n, page-bytes (slot_page index charges n), ← a) (simp append_assoc)

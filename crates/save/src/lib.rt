@@ -34,8 +34,8 @@ fn owners(held: &Held) -> [u16; PAGES]
     ensures { (s : ℕ) → s < opened held.now.flash.indices → at result s ≡ place_of (suc s) held.now.flash.indices * 128 }
 {
     let mut found = [0u16; PAGES];
-    for i in (0..PAGES).rev() {
-        let entry = usize::from(held.flash.indices[i]);
+    for (i, entry) in held.flash.indices.iter().enumerate().rev() {
+        let entry = usize::from(*entry);
         if entry != 0 {
             found[entry - 1] = (i * PAGE) as u16;
         }
@@ -49,11 +49,10 @@ fn put_pages(out: &mut [u8], held: &Held, count: usize)
     ensures { take (page_at count) out.new ≡ take pages_place out.old ++ write_all (charge_page []).write (slot_pages count 0 held.now.flash.indices held.now.charges.now) }
 {
     let owners = owners(held);
+    let (charges, _) = held.charges.as_chunks::<PAGE_CELLS>();
     for slot in 0..count {
-        let from = slot * PAGE_CELLS;
-        let to = from + PAGE_CELLS;
         owners[slot].put(out, page_at(slot));
-        put_row(out, page_at(slot) + 2, &held.charges[from..to]);
+        put_row(out, page_at(slot) + 2, &charges[slot]);
     }
 }
 
@@ -161,10 +160,7 @@ fn snapshot_length(count: usize, sense: Option<PendingSense>) -> usize
     ensures { result ≡ snapshot_length count sense }
 {
     let base = FIRST_PAGE + STATE_LEN + count * PAGE_LEN;
-    match sense {
-        None => base,
-        Some(_) => base + SENSE_LEN,
-    }
+    sense.map_or(base, |_| base + SENSE_LEN)
 }
 
 // The snapshot fills the whole of the output.

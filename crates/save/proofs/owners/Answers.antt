@@ -1,37 +1,56 @@
--- `save::owners` meets its contract. The loop's invariant: each slot that a page from i on has, by the first such page.
+-- `save::owners` meets its contract. The loop's invariant: each slot that a page passed has, by the first such page.
 -- Assumes nothing.
 use Rattle.settle.proofs.Slots.{entry-le}
-use Prim.Native.Nat.{suc, ◌-◌, ◌<◌}
-use mathlib.Core.Path.{◌≡◌, refl}
+use mathlib.Core.List.{[], append-nil}
+use mathlib.Core.Path.{◌≡◌, refl, ◌∙◌}
+use Prim.Native.Nat.{suc}
+use Rattle.cell.specs.Cell.{at}
 use lib.ListN.{length, length-set}
-use Rattle.save.proofs.Filled.{none_owned, slot-owned, closed-owned, all-owned}
+use Rattle.save.proofs.Filled.{Owned, front-next, last-place, last-within, last-at, none_owned, slot-owned, closed-owned, all-owned}
 use native.Mathlib.Omega.{arith}
 use Rattle.save.proofs.owners.Goals as goal
 
 pub loop-i-init : goal.loop-i-init
-loop-i-init c = (refl, none_owned 384 c.args.held.now.flash.indices _ c.args.held.now.fit.index_long)
+loop-i-init c =
+    let xs = c.args.held.now.flash.indices in
+    rw (c.into_iter-i-iterator.ensures.into_iter_gives, c.rev-i-items.ensures.source, c.enumerate.ensures.source, c.iter.ensures.rest)
+    (refl, c.enumerate.ensures.count, ([], append-nil xs), none_owned (length xs) xs _ refl)
 
 pub bounds-found-entry : goal.bounds-found-entry
-bounds-found-entry c = omega (arith, entry-le _ c.args.held.now.fit.index_long c.args.held.now.fit.slots (c.loop-i.i - 1))
+bounds-found-entry c =
+    let held = c.args.held.now in
+    let front = c.next.new.self.iter.iter.rest.now in
+    let there = last-at held.flash.indices _ front _ c.loop-i.invariant.2 c.in-Some.ensures.steps.1.0 in
+    omega (arith, there, entry-le held.flash.indices held.fit.index_long held.fit.slots (length front))
 
 pub loop-i-preserved-then-entry-ne0 : goal.loop-i-preserved-then-entry-ne0
-loop-i-preserved-then-entry-ne0 c = let l = c.loop-i in
-    let xs = c.args.held.now.flash.indices in
-    let i = l.i - 1 in
-    let e : suc i ≡ l.i = omega arith in
-    let h : i < length xs = omega arith in
-    rw c.from-entry.ensures (simp length-set l.invariant.0, slot-owned i xs l.found h (rw e l.invariant.1) (omega arith) (omega (arith, entry-le xs c.args.held.now.fit.index_long c.args.held.now.fit.slots i)))
+loop-i-preserved-then-entry-ne0 c =
+    let held = c.args.held.now in
+    let xs = held.flash.indices in
+    let l = c.loop-i in
+    let front = c.next.new.self.iter.iter.rest.now in
+    let f = l.invariant.2 in
+    let s = c.in-Some.ensures.steps in
+    let there : at xs (length front) ≡ c.in-Some.entry.now = last-at xs _ front _ f s.1.0 in
+    let place : c.in-Some.i ≡ length front = omega arith in
+    let passed : Owned (suc (length front)) xs l.found = rw (last-place xs _ front _ f s.1.0) l.invariant.3 in
+    let owned = slot-owned (length front) xs l.found (last-within xs _ front _ f s.1.0) passed (omega arith) (omega (arith, entry-le xs held.fit.index_long held.fit.slots (length front))) in
+    rw (c.from-entry.ensures, place) (simp length-set l.invariant.0, s.0 ∙ l.invariant.1, front-next xs _ front _ f s.1.0, rw there at owned)
 
 pub loop-i-preserved : goal.loop-i-preserved
-loop-i-preserved c = let l = c.loop-i in
+loop-i-preserved c =
     let xs = c.args.held.now.flash.indices in
-    let i = l.i - 1 in
-    let e : suc i ≡ l.i = omega arith in
-    let h : i < length xs = omega arith in
-    (l.invariant.0, closed-owned i xs l.found h (rw e l.invariant.1) (omega arith))
+    let l = c.loop-i in
+    let front = c.next.new.self.iter.iter.rest.now in
+    let f = l.invariant.2 in
+    let s = c.in-Some.ensures.steps in
+    let there : at xs (length front) ≡ c.in-Some.entry.now = last-at xs _ front _ f s.1.0 in
+    let passed : Owned (suc (length front)) xs l.found = rw (last-place xs _ front _ f s.1.0) l.invariant.3 in
+    (l.invariant.0, s.0 ∙ l.invariant.1, front-next xs _ front _ f s.1.0, closed-owned (length front) xs l.found (last-within xs _ front _ f s.1.0) passed (omega arith))
 
 pub returns : goal.returns
-returns c = let l = c.loop-i in
-    let xs = c.args.held.now.flash.indices in
-    let e : l.i ≡ 0 = omega arith in
-    all-owned xs l.found (rw e at l.invariant.1) c.args.held.now.fit.index_long c.args.held.now.fit.slots
+returns c =
+    let held = c.args.held.now in
+    let l = c.loop-i in
+    let none : length l.i-iterator.iter.iter.rest.now ≡ 0 = c.in-None.ensures.steps.1.0 in
+    all-owned held.flash.indices l.found (rw none at l.invariant.3) held.fit.index_long held.fit.slots
