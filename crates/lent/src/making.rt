@@ -24,14 +24,6 @@ fn fresh() -> Flash
     }
 }
 
-// Others may name it, so it stays beside `copy_from_slice`, which it is.
-pub fn copy(from: &[u8], to: &mut [u8])
-    requires { length from.now ≡ length to.old }
-    ensures { to.new ≡ from.now }
-{
-    to.copy_from_slice(from);
-}
-
 // A new array: record and array are written, the charge store keeps its numbers.
 #[tactic(auto, unfolding(crate::specs::Looked::new_refusal))]
 pub fn make(

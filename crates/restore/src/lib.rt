@@ -14,7 +14,6 @@ use crate::loading::{flash_at, load_pages};
 use cell::FLASH_SIZE;
 use coding::write;
 use lent::checking::{last_second, sizes_misfit};
-use lent::making::copy;
 use lent::memory::LentMut;
 use refusal::Refusal;
 use scan::scan;
@@ -37,7 +36,7 @@ fn take(snapshot: &Scanned, memory: &mut LentMut, time: Time) -> Result<(), Refu
     if !valid(time, flash) {
         return Err(Refusal::Invalid);
     }
-    copy(&snapshot.bytes[0..FLASH_SIZE], memory.array);
+    memory.array.copy_from_slice(&snapshot.bytes[0..FLASH_SIZE]);
     load_pages(snapshot.bytes, snapshot.count(), memory.charges);
     write(memory.record, flash);
     Ok(())

@@ -18,8 +18,8 @@ returns-then-not-valid-clause-judged c =
     not_valid _ _ _ _ _ _ state.same state.place c.end.ensures c.args.snapshot.now.indexed c.if-end-snapshot.false _
     c.flash_at-flash.ensures _ c.valid.ensures c.if-not-valid.true
 
-pub slice_bounds-copy-end : goal.slice_bounds-copy-end
-slice_bounds-copy-end c = omega (arith, (scan-room _ c.args.snapshot.now.good).0)
+pub slice_bounds-copy_from_slice-end-2 : goal.slice_bounds-copy_from_slice-end-2
+slice_bounds-copy_from_slice-end-2 c = omega (arith, (scan-room _ c.args.snapshot.now.good).0)
 
 pub returns : goal.returns
 returns c =
@@ -27,5 +27,5 @@ returns c =
     let t =
     taken _ _ _ _ _ _ state.same state.place c.end.ensures c.args.snapshot.now.indexed c.if-end-snapshot.false _
     c.flash_at-flash.ensures _ c.valid.ensures c.if-not-valid.false (memory_at c.args.memory.now) _ _ _ c.write.ensures
-    c.copy.ensures (rw c.count.ensures.count at c.load_pages.ensures) in
+    c.copy_from_slice.ensures.after (rw c.count.ensures.count at c.load_pages.ensures) in
     record { same = search rules; judged = t.0; left = t.1 }
