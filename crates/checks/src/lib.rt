@@ -9,13 +9,14 @@ ghost use Rattle.layout.specs.Layout.{head_known, nothing_clear, placed, legible
 
 use crate::slots::slots_sound;
 use cell::{ARRAY_BYTES, PAGE_BYTES, PAGES};
+use control::supplies::{LAST_MODE, LAST_SUPPLY};
 use layout::{ADDRESSES, INDICES, PENDING_INSTANT, RECORD_LEN};
 use rows::row_at;
 use rows::numbers::Number;
 use time::Time;
 
 // The most that each single byte of a state can be: those of flags, of the supply, of the mode and of the option are few, the others may be any.
-pub const LIMITS: [u8; 10] = [255, 1, 255, 1, 1, 2, 1, 5, 1, 1];
+pub const LIMITS: [u8; 10] = [255, 1, 255, 1, 1, LAST_SUPPLY, 1, LAST_MODE, 1, 1];
 
 // Whether each byte is at most its limit.
 fn within(bytes: &[u8], limits: &[u8]) -> bool

@@ -4,6 +4,11 @@ ghost use Rattle.control.specs.Supplies.{supply_number, mode_number, supply_in};
 
 use crate::{Mode, Supply};
 
+// The greatest number of a supply, and of a mode.
+pub const LAST_SUPPLY: u8 = 2;
+
+pub const LAST_MODE: u8 = 5;
+
 impl From<Supply> for u8 {
     ghost from_gives = { λ supply n. n ≡ supply_number supply };
 

@@ -7,6 +7,7 @@ ghost use Rattle.lent.specs.Asked.{misplaced, call_refusal};
 use crate::{Asking, Request};
 use calling::settles;
 use cell::{CELLS, FLASH_SIZE, PAGE};
+use control::supplies::LAST_MODE;
 use flash::Flash;
 use layout::RECORD_LEN;
 use refusal::Refusal;
@@ -34,7 +35,7 @@ fn misplaced(request: Request) -> bool
     match request {
         Request::Write8(a, _) | Request::Read8(a) => past_end(a),
         Request::Read16(a) => FLASH_SIZE <= usize::from(a) + 1,
-        Request::Environment(mode, _, _) => 5 < mode,
+        Request::Environment(mode, _, _) => LAST_MODE < mode,
         _ => false,
     }
 }
