@@ -1,7 +1,7 @@
 -- The first refused field of a run, found by going through it: as long as nothing was refused, what the whole run answers is what its rest
 -- answers; at the first refused field it is that field's number. So for limited bytes and the pages.
 -- Assumes nothing.
-use Rattle.std.proofs.Common.{◌≡◌, ℕ, zero, suc, ◌+◌, ◌-◌, ◌*◌, ◌/◌, ◌%◌, ◌<◌, ◌≤◌, Bool, true, false, cond, ◌&&◌, eqb, ltb, leb, List, ◌∷◌, length, drop, sym, refl, ◌∙◌, add-one, arith, drop_of_length-le, drop-cons, ltb-false, ltb-true, le-ltb, le-leb, leb-false}
+use Rattle.std.proofs.Common.{◌≡◌, ℕ, zero, suc, ◌+◌, ◌-◌, ◌*◌, ◌/◌, ◌%◌, ◌<◌, ◌≤◌, Bool, true, false, cond, ◌&&◌, eqb, ltb, leb, List, ◌∷◌, length, drop, sym, refl, ◌∙◌, add-one, arith, drop_of_length-le, drop-cons, ltb-false, ltb-true, le-ltb, lt-ltb, le-leb, leb-false}
 use Rattle.std.specs.Prelude.{Result, Ok, Err, OnOk}
 use borrow.Author.Tests.{lt-leb}
 use Rattle.time.proofs.Bools.{both}
@@ -12,7 +12,7 @@ use Rattle.refusal.specs.declared.Refusal.{Refusal}
 use Rattle.refusal.specs.Refusal.{number}
 use Rattle.refusal.proofs.Outcomes.{number-some}
 use Rattle.snapshot.specs.Asked.{first}
-use Rattle.snapshot.specs.Places.{pages_place, page_length, page_at, count_in, cells_number, address_number, with_page, pages_number, pages_index, bytes_number, state_length, state_number, count_number, scan_number}
+use Rattle.snapshot.specs.Places.{pages_place, page_length, page_at, count_in, cells_number, address_number, with_page, pages_number, pages_index, end_number, bytes_number, state_length, state_number, count_number, scan_number}
 
 -- ---- the first of two: r is the number of the one before
 
@@ -76,6 +76,18 @@ no-limits limits xs i place h = rw (drop_of_length-le limits h)
 pub byte-there : (most : ℕ) (limits xs : List ℕ) (place : ℕ) → bytes_number (most ∷ limits) xs place ≡ 0 → place < length xs
 unfolding bytes_number
 byte-there most limits xs place e = leb-false (length xs) place (not-nine (leb (length xs) place) _ e).0
+
+-- ---- the bytes before a place, there or not
+
+pub end-passed : (xs : List ℕ) (end : ℕ) → 0 ≡ end_number xs end → end ≤ length xs
+end-passed xs end e = ltb-false (length xs) end (not-nine (ltb (length xs) end) 0 (sym e)).0
+
+pub end-missing : (xs : List ℕ) (end r : ℕ) → r ≡ end_number xs end → (r ≡ 0 → ⊥) → (r ≡ 9) × (length xs < end)
+end-missing xs end r e z = by (ltb (length xs) end) refl
+  where
+    by : (t : Bool) → ltb (length xs) end ≡ t → (r ≡ 9) × (length xs < end)
+    by true d = (e ∙ rw d, ltb-true (length xs) end d)
+    by false d = absurd (z (e ∙ rw d))
 
 -- ---- the pages, after those of so many slots
 
@@ -154,7 +166,11 @@ pub counted : (xs index : List ℕ) (count : ℕ) → pages_place ≤ length xs 
 unfolding scan_number count_number
 counted xs index count h e l i = rw (le-ltb _ _ h, ← e, le-leb _ _ l, i)
 
--- ---- more pages than there are
+-- ---- no count of pages, or more pages than there are
+
+pub no-count : (xs : List ℕ) (r : ℕ) → r ≡ end_number xs pages_place → (r ≡ 0 → ⊥) → r ≡ scan_number xs
+unfolding scan_number count_number
+no-count xs r e z = let m = end-missing xs pages_place r e z in rw (lt-ltb _ _ m.1) m.0
 
 pub too-many : (xs : List ℕ) (k : ℕ) → pages_place ≤ length xs → k ≡ count_in xs → pages < k → 10 ≡ scan_number xs
 unfolding scan_number count_number

@@ -12,19 +12,21 @@ ghost use Rattle.refusal.specs.Refusal.{told};
 ghost use Rattle.snapshot.specs.Places.{pages_place, count_in, cells_number, address_number, with_page, pages_number, pages_index, bytes_number, end_number, state_length, state_number, scan_number};
 
 use crate::scanned::Scanned;
-use cell::{FULL, PAGE, PAGE_BYTES, PAGES};
+use cell::{FULL, PAGE, PAGE_BYTES, PAGE_CELLS, PAGES};
 use checks::{LIMITS, placed};
 use refusal::Refusal;
 use rows::numbers::Number;
-use snapshot::{COUNT, FIRST_PAGE, PENDING, SENSE_LEN, STATE_LEN, SUPPLY, page_at};
+use snapshot::{
+    CHARGE_LEN, CHARGES, COUNT, FIRST_PAGE, PENDING, SENSE_LEN, STATE_LEN, SUPPLY, page_at,
+};
 
 // The highest bit of a charge.
 const TOP: u64 = 9223372036854775808;
 
-// A page is gone over by quarters: the cells of one, and how many there are.
-const QUARTER: usize = 256;
-
+// A page is gone over by quarters: how many there are, and the cells of one.
 const QUARTERS: usize = 4;
+
+const QUARTER: usize = PAGE_CELLS / QUARTERS;
 
 // The highest bit tells a charge over FULL: only then both it and what FULL less it wraps to have that bit.
 fn over(charge: u64) -> u64
@@ -52,7 +54,7 @@ fn check_cells(bytes: &[u8], at: usize, count: usize) -> Result<(), Refusal>
     requires { at ≤ length bytes.now }
     ensures { told result ≡ cells_number count bytes.now at }
 {
-    let there = (bytes.len() - at) / 8;
+    let there = (bytes.len() - at) / CHARGE_LEN;
     if !none_over(bytes, at, there.min(count)) {
         return Err(Refusal::Field);
     }
@@ -79,7 +81,7 @@ fn check_address(bytes: &[u8], at: usize, indices: &[u16; PAGES]) -> Result<(), 
     requires { at < 2 ^ 32 }
     ensures { told result ≡ address_number indices.now bytes.now at }
 {
-    check_end(bytes, at + 2)?;
+    check_end(bytes, at + CHARGES)?;
     let address = u16::get(bytes, at);
     if !placed(address, PAGE_BYTES) {
         return Err(Refusal::Field);
@@ -114,13 +116,13 @@ fn check_pages(bytes: &[u8], count: usize, indices: &mut [u16; PAGES]) -> Result
             break 'pages;
         }
         enter_page(indices, slot, bytes, at);
-        at += 2;
+        at += CHARGES;
         for quarter in 0..QUARTERS {
             if let Err(refusal) = check_cells(bytes, at, QUARTER) {
                 outcome = Err(refusal);
                 break 'pages;
             }
-            at += 8 * QUARTER;
+            at += CHARGE_LEN * QUARTER;
         }
     }
     outcome
@@ -132,9 +134,7 @@ fn check_bytes(bytes: &[u8], at: usize, limits: &[u8]) -> Result<(), Refusal>
     ensures { told result ≡ bytes_number limits.now bytes.now at }
 {
     for (i, most) in limits.iter().enumerate() {
-        if bytes.len() <= at + i {
-            return Err(Refusal::EndsEarly);
-        }
+        check_end(bytes, at + i + 1)?;
         if *most < bytes[at + i] {
             return Err(Refusal::Field);
         }
@@ -182,9 +182,7 @@ pub fn scan(bytes: &[u8]) -> Result<Scanned<'_>, Refusal>
     ensures told { told result ≡ scan_number bytes.now }
     ensures same { IfOk result (λ snapshot. snapshot.bytes.now ≡ bytes.now) }
 {
-    if bytes.len() < FIRST_PAGE {
-        return Err(Refusal::EndsEarly);
-    }
+    check_end(bytes, FIRST_PAGE)?;
     let count = count_in(bytes);
     if PAGES < count {
         return Err(Refusal::Field);

@@ -5,14 +5,19 @@ ghost use Rattle.std.specs.Prelude.{◌≡◌, ◌≤◌};
 ghost use Rattle.cell.specs.Cell.{pages};
 ghost use Rattle.snapshot.specs.Places.{page_at};
 
-use cell::{FLASH_SIZE, PAGES};
+use cell::{FLASH_SIZE, PAGE, PAGE_CELLS, PAGES};
 
-// Where the count of charge pages stands, after the array, and where they begin; the bytes of one.
+// Where the count of charge pages stands, after the array, and where they begin.
 pub const COUNT: usize = FLASH_SIZE;
 
 pub const FIRST_PAGE: usize = COUNT + 4;
 
-pub const PAGE_LEN: usize = 8194;
+// Where the charges of a page begin, after its address; the bytes of a charge, and of a page.
+pub const CHARGES: usize = 2;
+
+pub const CHARGE_LEN: usize = 8;
+
+pub const PAGE_LEN: usize = CHARGES + CHARGE_LEN * PAGE_CELLS;
 
 // Where the fields of the state stand, counted from where it begins; the first is the control register.
 pub const ERROR: usize = 1;
@@ -25,7 +30,7 @@ pub const POWER_DOWN_DISABLED: usize = 4;
 
 pub const LATCH: usize = 5;
 
-pub const LATCH_PAGE: usize = 133;
+pub const LATCH_PAGE: usize = LATCH + PAGE;
 
 pub const SUPPLY: usize = 135;
 
