@@ -6,7 +6,7 @@ pub mod state;
 ghost use Rattle.std.specs.Prelude.{◌≡◌, ◌++◌, length, take};
 ghost use Rattle.layout.specs.Layout.{record_length, encoded, decoded, head_of, addresses_of, halves_of, row_bytes};
 
-use crate::state::{addresses_of, halves_of, head_of, registers_of};
+use crate::state::{addresses_of, halves_of, head_of, registers_of, time_of};
 use flash::Flash;
 use layout::{ADDRESSES, HALVES, INDICES, LATCH, RECORD_LEN, SENSED};
 use registers::Registers;
@@ -24,7 +24,7 @@ pub fn read(record: &[u8; RECORD_LEN]) -> Flash
     let registers = registers_of(head, addresses, halves, latch);
     Flash {
         registers,
-        pulse_since: Time(halves[12], halves[13]),
+        pulse_since: time_of(&halves, 12),
         sensed: row_at(record, SENSED),
         indices: row_at(record, INDICES),
     }
@@ -37,7 +37,7 @@ fn put_scalars(record: &mut [u8], registers: Registers, since: Time)
 {
     put_row(record, 0, &head_of(registers));
     put_row(record, ADDRESSES, &addresses_of(registers));
-    put_row(record, HALVES, &halves_of(registers, since));
+    put_row(record, HALVES, halves_of(registers, since).as_flattened());
 }
 
 // A state's record. It is no array reference: callers know a slice's length together with two others', and would unwrap one at each call.

@@ -1,6 +1,6 @@
 // The state as rows of numbers, and back.
-ghost use Rattle.std.specs.Prelude.{◌≡◌};
-ghost use Rattle.layout.specs.Layout.{supply_of, mode_of, head_of, addresses_of, halves_of, registers_of};
+ghost use Rattle.std.specs.Prelude.{◌≡◌, ◌<◌, flat_map};
+ghost use Rattle.layout.specs.Layout.{supply_of, mode_of, head_of, addresses_of, halves_of, time_of, registers_of};
 
 use cell::PAGE;
 use control::{Mode, PendingSense, Supply};
@@ -59,30 +59,30 @@ pub fn addresses_of(r: Registers) -> [u16; 2]
     [r.page, r.verify_pending.map_or(0, |due| due.address)]
 }
 
-// The halves of the instants, whole seconds first.
+// The halves of the instants, one instant after the other.
 #[tactic(auto, unfolding(layout::specs::Layout::halves_of))]
-pub fn halves_of(r: Registers, since: Time) -> [u64; 16]
-    ensures { result ≡ halves_of r since }
+pub fn halves_of(r: Registers, since: Time) -> [[u64; 2]; 8]
+    ensures { flat_map (λ halves. halves) result ≡ halves_of r since }
 {
     let instant = r.verify_pending.map_or(Time(0, 0), |due| due.at);
     [
-        r.ready.0,
-        r.ready.1,
-        r.swe_ready.0,
-        r.swe_ready.1,
-        r.program_ready.0,
-        r.program_ready.1,
-        r.erase_ready.0,
-        r.erase_ready.1,
-        r.recovery.0,
-        r.recovery.1,
-        r.verify_ready.0,
-        r.verify_ready.1,
-        since.0,
-        since.1,
-        instant.0,
-        instant.1,
+        r.ready.into(),
+        r.swe_ready.into(),
+        r.program_ready.into(),
+        r.erase_ready.into(),
+        r.recovery.into(),
+        r.verify_ready.into(),
+        since.into(),
+        instant.into(),
     ]
+}
+
+// The instant whose halves stand from a place on.
+pub fn time_of(halves: &[u64; 16], k: usize) -> Time
+    requires { k < 15 }
+    ensures { result ≡ time_of halves.now k }
+{
+    Time(halves[k], halves[k + 1])
 }
 
 #[tactic(auto, unfolding(layout::specs::Layout::registers_of))]
@@ -96,7 +96,7 @@ pub fn registers_of(
 {
     let pending = PendingSense {
         address: addresses[1],
-        at: Time(halves[14], halves[15]),
+        at: time_of(&halves, 14),
     };
     Registers {
         control: head[0],
@@ -110,12 +110,12 @@ pub fn registers_of(
         oscillator: head[6] == 1,
         mode: mode_of(head[7]),
         module: head[8] == 1,
-        ready: Time(halves[0], halves[1]),
-        swe_ready: Time(halves[2], halves[3]),
-        program_ready: Time(halves[4], halves[5]),
-        erase_ready: Time(halves[6], halves[7]),
-        recovery: Time(halves[8], halves[9]),
-        verify_ready: Time(halves[10], halves[11]),
+        ready: time_of(&halves, 0),
+        swe_ready: time_of(&halves, 2),
+        program_ready: time_of(&halves, 4),
+        erase_ready: time_of(&halves, 6),
+        recovery: time_of(&halves, 8),
+        verify_ready: time_of(&halves, 10),
         verify_pending: (head[9] == 1).then_some(pending),
     }
 }

@@ -14,20 +14,18 @@ use rows::{get_row, row_at};
 use rows::numbers::Number;
 use scan::state::StateAt;
 use snapshot::{
-    ENABLED, ERASE, ERASE_READY, ERROR, LATCH, LATCH_PAGE, MODE, MODULE, OSCILLATOR, PENDING,
-    PENDING_ADDRESS, PENDING_INSTANT, POWER_DOWN_DISABLED, PROGRAM_READY, PULSE_SINCE, READY,
-    RECOVERY, SUPPLY, SWE_READY, VERIFY_READY, page_at,
+    CHARGES, ENABLED, ERASE, ERASE_READY, ERROR, LATCH, LATCH_PAGE, MODE, MODULE, OSCILLATOR,
+    PENDING, PENDING_ADDRESS, PENDING_INSTANT, POWER_DOWN_DISABLED, PROGRAM_READY, PULSE_SINCE,
+    READY, RECOVERY, SUPPLY, SWE_READY, VERIFY_READY, page_at,
 };
 use time::Time;
 
-// An instant: the low half stands first.
+// The instant that stands at a place.
 fn time_at(bytes: &[u8], at: usize) -> Time
     requires { at + 16 ≤ length bytes.now }
     ensures { result ≡ time_at bytes.now at }
 {
-    let low = u64::get(bytes, at);
-    let high = u64::get(bytes, at + 8);
-    Time(high, low)
+    Time::get(bytes, at)
 }
 
 // The pending sense of a state; every state has 256 bytes at least.
@@ -98,6 +96,6 @@ pub fn load_pages(bytes: &[u8], count: usize, charges: &mut [u64])
     for slot in 0..count {
         let from = slot * PAGE_CELLS;
         let to = from + PAGE_CELLS;
-        get_row(bytes, page_at(slot) + 2, &mut charges[from..to]);
+        get_row(bytes, page_at(slot) + CHARGES, &mut charges[from..to]);
     }
 }

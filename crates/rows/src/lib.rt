@@ -1,6 +1,7 @@
 // Rows of numbers of one width, one after the other.
 #![tactic(auto)]
 
+pub mod instants;
 pub mod numbers;
 
 ghost use Rattle.std.specs.Prelude.{◌≡◌, ◌++◌, ◌+◌, ◌*◌, ◌≤◌, length, take};

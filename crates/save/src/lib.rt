@@ -25,8 +25,8 @@ use rows::numbers::Number;
 use rows::put_row;
 use settle::pages::opened;
 use snapshot::{
-    COUNT, FIRST_PAGE, LATCH, PAGE_LEN, PENDING, READY, SENSE_ADDRESS, SENSE_END, SENSE_INSTANT,
-    SENSE_LEN, STATE_LEN, SUPPLY, page_at,
+    CHARGES, COUNT, FIRST_PAGE, LATCH, LATCH_PAGE, PAGE_LEN, PENDING, READY, SENSE_ADDRESS,
+    SENSE_END, SENSE_INSTANT, SENSE_LEN, STATE_LEN, SUPPLY, page_at,
 };
 
 // The address of the page that has each slot. From the last page down, so that the first page with a slot stays.
@@ -52,7 +52,7 @@ fn put_pages(out: &mut [u8], held: &Held, count: usize)
     let (charges, _) = held.charges.as_chunks::<PAGE_CELLS>();
     for slot in 0..count {
         owners[slot].put(out, page_at(slot));
-        put_row(out, page_at(slot) + 2, &charges[slot]);
+        put_row(out, page_at(slot) + CHARGES, &charges[slot]);
     }
 }
 
@@ -79,7 +79,7 @@ fn put_latched(out: &mut [u8], at: usize, flash: Flash)
 {
     let r = flash.registers;
     put_row(out, at, &r.latch);
-    r.page.put(out, at + PAGE);
+    r.page.put(out, at + (LATCH_PAGE - LATCH));
 }
 
 #[tactic(auto, using(crate::proofs::Runs::rows), unfolding(snapshot::specs::Snapshot::state_fields))]
@@ -97,28 +97,20 @@ fn put_supplies(out: &mut [u8], at: usize, flash: Flash)
     put_row(out, at, &run);
 }
 
-// The low half of an instant stands first.
+#[tactic(auto, using(crate::proofs::Runs::rows), unfolding(snapshot::specs::Snapshot::state_fields))]
 fn put_instants(out: &mut [u8], at: usize, flash: Flash)
     requires { at + 112 ≤ length out.old }
     ensures { take (at + 112) out.new ≡ take at out.old ++ instants.write (state_fields flash).1.1.1.0 }
 {
     let r = flash.registers;
-    let since = flash.pulse_since;
     let run = [
-        r.ready.1,
-        r.ready.0,
-        r.swe_ready.1,
-        r.swe_ready.0,
-        r.program_ready.1,
-        r.program_ready.0,
-        r.erase_ready.1,
-        r.erase_ready.0,
-        r.recovery.1,
-        r.recovery.0,
-        since.1,
-        since.0,
-        r.verify_ready.1,
-        r.verify_ready.0,
+        r.ready,
+        r.swe_ready,
+        r.program_ready,
+        r.erase_ready,
+        r.recovery,
+        flash.pulse_since,
+        r.verify_ready,
     ];
     put_row(out, at, &run);
 }
@@ -136,7 +128,7 @@ fn put_pending(out: &mut [u8], at: usize, sense: Option<PendingSense>) -> usize
         Some(due) => {
             out[at] = 1;
             due.address.put(out, at + SENSE_ADDRESS);
-            put_row(out, at + SENSE_INSTANT, &[due.at.1, due.at.0]);
+            due.at.put(out, at + SENSE_INSTANT);
             at + SENSE_END
         }
     }

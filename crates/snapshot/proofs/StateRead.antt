@@ -27,7 +27,7 @@ pub record StateRead (xs : List ℕ) (base : ℕ) : Type 0 where
   pub flash : (index : List ℕ) → state_of value index ≡ flash_at xs base index
 
 -- an instant's low half stands first
-word-raw : (xs : List ℕ) (p : ℕ) → word 16 xs p ≡ raw (time_at xs p)
+pub word-raw : (xs : List ℕ) (p : ℕ) → word 16 xs p ≡ raw (time_at xs p)
 unfolding raw
 word-raw xs p =
     let l = word 8 xs p in

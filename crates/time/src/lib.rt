@@ -3,6 +3,7 @@
 #![tactic(auto)]
 
 pub mod accepted;
+pub mod halves;
 
 ghost use Rattle.std.specs.Prelude.{◌≡◌, ◌-◌, ◌^◌, ltb, leb, eqb, MatchOption};
 ghost use Rattle.time.specs.Raw.{raw, span, later, added, since, micros};

@@ -1,7 +1,7 @@
 -- `coding::put_scalars` meets its contract: three rows, each written after what stands already.
 -- Assumes nothing.
 use mathlib.Core.List.{[], ◌++◌}
-use mathlib.Core.Path.{refl}
+use mathlib.Core.Path.{refl, ◌∙◌}
 use Rattle.layout.proofs.Runs.{row-after}
 use Rattle.layout.specs.Layout.{row_bytes, head_of, addresses_of, halves_of}
 use Rattle.coding.proofs.put_scalars.Goals as goal
@@ -15,4 +15,4 @@ returns c =
     let n = c.put_row-2.new.to in
     let e = row-after 1 0 10 10 x.«record».now m _ (head_of r) [] c.head_of.ensures refl refl c.put_row.ensures refl in
     let f = row-after 2 10 2 14 m n _ (addresses_of r) (row_bytes 1 (head_of r)) c.addresses_of.ensures refl refl c.put_row-2.ensures e in
-    row-after 8 14 16 142 n _ _ (halves_of r x.since) (row_bytes 1 (head_of r) ++ row_bytes 2 (addresses_of r)) c.halves_of.ensures refl refl c.put_row-3.ensures f
+    row-after 8 14 16 142 n _ _ (halves_of r x.since) (row_bytes 1 (head_of r) ++ row_bytes 2 (addresses_of r)) (c.as_flattened.ensures.value ∙ c.halves_of.ensures) refl refl c.put_row-3.ensures f

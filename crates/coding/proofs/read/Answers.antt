@@ -16,4 +16,4 @@ made xs h a v l s n r e eh ea ev el es en = rw (e, eh, ea, ev, el, es, en)
 
 pub returns : goal.returns
 returns c =
-    made _ _ _ _ _ _ _ _ c.registers_of-registers.ensures c.row_at-head.ensures c.row_at-addresses.ensures c.row_at-halves.ensures c.row_at-latch.ensures c.row_at.ensures c.row_at-2.ensures
+    rw c.time_of.ensures (made _ _ _ _ _ _ _ _ c.registers_of-registers.ensures c.row_at-head.ensures c.row_at-addresses.ensures c.row_at-halves.ensures c.row_at-latch.ensures c.row_at.ensures c.row_at-2.ensures)

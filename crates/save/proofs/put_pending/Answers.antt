@@ -1,11 +1,11 @@
--- `save::put_pending` meets its contract: an option byte, and with a sense its address and the halves of its instant after it.
--- That the instant's fraction has 64 bits is what the type of the argument says.
+-- `save::put_pending` meets its contract: an option byte, and with a sense its address and its instant after it.
 -- Assumes nothing.
 use mathlib.Core.Path.{◌∙◌}
-use mathlib.Core.List.{[], ◌∷◌, append_assoc}
+use mathlib.Core.List.{append_assoc}
 use Prim.Native.Nat.{◌+◌}
 use lib.ListN.{set, length-set}
-use Rattle.layout.specs.Layout.{bytes, row_bytes}
+use Rattle.time.specs.Raw.{raw}
+use Rattle.layout.specs.Layout.{bytes}
 use Rattle.layout.proofs.Runs.{put_one}
 use Rattle.save.proofs.Runs.{after, nothing-row, sense-row}
 use native.Mathlib.Omega.{arith}
@@ -16,8 +16,8 @@ put-requires c =
     let h = rw c.in-Some.is at c.requires in
     simp length-set (omega arith)
 
-pub put_row-requires : goal.put_row-requires
-put_row-requires c =
+pub put-requires-in-Some : goal.put-requires-in-Some
+put-requires-in-Some c =
     let h = rw c.in-Some.is at c.requires in
     omega (arith, length-set c.args.out.now c.args.at 1)
 
@@ -39,8 +39,8 @@ returns-in-Some c =
     let a = c.in-Some.due.address in
     let t = c.in-Some.due.at in
     let m = c.put.new.to in
-    let n = c.put_row.new.to in
+    let n = c.put-in-Some.new.to in
     let p = put_one s k 1 (omega arith) (omega arith) in
     let q = after (k + 1) (k + 1 + 2) (k + 3) (set s k 1) m _ (bytes 2 a) c.put.ensures p (omega arith) in
-    let r = after (k + 3) (k + 3 + 16) (k + 19) m n _ (row_bytes 8 (t.1 ∷ t.0 ∷ [])) c.put_row.ensures q (omega arith) in
-    rw (c.in-Some.is, sense-row a t (omega arith)) (omega arith, r ∙ simp append_assoc)
+    let r = after (k + 3) (k + 3 + 16) (k + 19) m n _ (bytes 16 (raw t)) c.put-in-Some.ensures q (omega arith) in
+    rw (c.in-Some.is, sense-row a t) (omega arith, r ∙ simp append_assoc)
