@@ -25,9 +25,8 @@ fn put_call(calls: &mut [u64], at: usize, what: u64, time: Time)
     requires { at + 3 ≤ length calls.old }
     ensures { calls.new ≡ sets calls.old at (what ∷ time.0 ∷ time.1 ∷ []) }
 {
-    calls[at] = what;
-    calls[at + 1] = time.0;
-    calls[at + 2] = time.1;
+    let Time(seconds, fraction) = time;
+    calls[at..at + NUMBERS].copy_from_slice(&[what, seconds, fraction]);
 }
 
 // The time that a `+` in the next line counts from.

@@ -1,19 +1,17 @@
--- `history::put_call` meets its contract: its three stores are the definition's. Assumes nothing.
-use mathlib.Core.Path.{◌≡◌}
-use Prim.Native.Nat.{suc, ◌+◌}
+-- `history::put_call` meets its contract: three numbers in the place of as many. Assumes nothing.
+use mathlib.Core.Path.{◌≡◌, sym, ◌∙◌}
+use mathlib.Core.List.{[], ◌∷◌, append_assoc}
+use Prim.Native.Nat.{◌+◌, ◌-◌}
 use native.Mathlib.Omega.{arith}
-use lib.ListN.{length-set}
+use lib.ListN.{take, drop}
+use lib.Seq.{sets-eq, drop-drop}
 use Rattle.history.proofs.put_call.Goals as goal
-
-pub bounds-calls-at-2 : goal.bounds-calls-at-2
-bounds-calls-at-2 c = simp length-set (omega arith)
-
-pub bounds-calls-at-3 : goal.bounds-calls-at-3
-bounds-calls-at-3 c = simp length-set (omega arith)
 
 pub returns : goal.returns
 returns c =
-    let at = c.args.at in
-    let one : at + 1 ≡ suc at = omega arith in
-    let two : at + 2 ≡ suc (suc at) = omega arith in
-    rw (one, two)
+    let x = c.args in
+    let l = x.calls.now in
+    let ys = x.what ∷ x.time.0 ∷ x.time.1 ∷ [] in
+    let e : x.at + 3 - x.at ≡ 3 = omega arith in
+    rw (e, c.copy_from_slice.ensures.after, drop-drop 3 x.at l)
+    (sym (sets-eq ys l x.at (omega arith) ∙ append_assoc (take x.at l) ys (drop (x.at + 3) l)))
