@@ -2,7 +2,7 @@
 -- the entries passed goes over to one more; what fails at one of them fails for the whole index; an index without opened pages is sound.
 -- Assumes nothing.
 use mathlib.Core.Path.{◌≡◌, refl, sym, ap, ◌∙◌}
-use mathlib.Core.Bool.{Bool, true, false, not, ◌&&◌, ◌||◌}
+use mathlib.Core.Bool.{Bool, true, false, not, ◌&&◌, ◌||◌, and-false}
 use mathlib.Core.List.{List, [], ◌∷◌, ◌++◌, append_assoc, append-nil}
 use Prim.Native.Nat.{ℕ, zero, suc, ◌<◌, ◌≤◌}
 use native.Mathlib.Omega.{arith}
@@ -17,10 +17,6 @@ use Rattle.settle.specs.Pages.{opened, holds, distinct, within, slots_sound}
 -- an entry is marked if it is a slot's and the list has it
 abbrev pub mark : ℕ → List ℕ → Bool
 mark k xs = not (eqb k 0) && holds k xs
-
-and-false : (b : Bool) → (b && false) ≡ false
-and-false true = refl
-and-false false = refl
 
 within-whole : (n : ℕ) (front passed : List ℕ) → within n passed ≡ false → within n (front ++ passed) ≡ false
 unfolding within

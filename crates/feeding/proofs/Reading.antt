@@ -5,7 +5,7 @@ use mathlib.Core.Bool.{Bool, true, false, cond, not, ◌||◌, or-true, or-false
 use mathlib.Core.List.{List, [], ◌∷◌, ◌++◌, append-nil, append_assoc}
 use mathlib.Core.Path.{◌≡◌, refl, sym, ap, ◌∙◌}
 use native.Mathlib.Omega.{arith}
-use borrow.Author.Tests.{lt-ltb, le-ltb, eqb-true}
+use borrow.Author.Tests.{lt-ltb, le-ltb, eqb-true, not-false}
 use lib.Dec.{eqb, ltb, leb-suc-suc}
 use lib.ListN.{length, get_or, take, length-append}
 use lib.Seq.{take-nil, take-suc}
@@ -59,11 +59,7 @@ abbrev pub up_to : List ℕ → List ℕ
 up_to bs = take (index_of newline bs) bs
 
 newline-found : (bs : List ℕ) → index_of newline bs < length bs → get_or bs (index_of newline bs) 0 ≡ newline
-newline-found bs h = eqb-true _ newline (not-not _ (prefix_len_stops (λ b. not (eqb b newline)) bs 0 h))
-  where
-    not-not : (t : Bool) → not t ≡ false → t ≡ true
-    not-not true e = refl
-    not-not false e = sym e
+newline-found bs h = eqb-true _ newline (not-false _ (prefix_len_stops (λ b. not (eqb b newline)) bs 0 h))
 
 -- ---- bytes that are read
 

@@ -10,6 +10,7 @@ use Rattle.refusal.specs.Refusal.{number, told, Answers}
 use Rattle.refusal.proofs.Outcomes.{number-some}
 use Rattle.layout.specs.Layout.{flag_byte}
 use Rattle.lent.specs.Looked.{answered}
+use Rattle.save.proofs.Runs.{flag-from}
 
 pub answer-kept : (r : Refusal) (answer old : ℕ) → old ≡ answered (number r) answer old
 answer-kept r answer old = by (number r) (number-some r)
@@ -24,13 +25,9 @@ answer-placed answer old (Ok v) a p = rw p.0 (sym a.0, p.1 ∙ a.1)
 answer-placed answer old (Err r) a p = rw p.0 (a, p.1 ∙ answer-kept r answer old)
 
 -- the same of a flag
-flag_is : (b : Bool) → from_bool b ≡ flag_byte b
-flag_is true = refl
-flag_is false = refl
-
 pub flag-placed : (answer : Bool) (old : ℕ) {n number new : ℕ} (o : Result Bool Refusal) → Answers n answer o
     → (number ≡ told o) × MatchResult o (λ v. new ≡ from_bool v) (λ _. new ≡ old) → (number ≡ n) × (new ≡ answered number (flag_byte answer) old)
-flag-placed answer old (Ok v) a p = rw p.0 (sym a.0, p.1 ∙ flag_is v ∙ rw a.1)
+flag-placed answer old (Ok v) a p = rw p.0 (sym a.0, p.1 ∙ flag-from v ∙ rw a.1)
 flag-placed answer old (Err r) a p = rw p.0 (a, p.1 ∙ answer-kept r (flag_byte answer) old)
 
 pub ruleset placed = (answer-placed, flag-placed)

@@ -8,7 +8,7 @@ use native.Mathlib.Omega.{arith}
 use borrow.Author.Tests.{lt-ltb, leb-true, ltb-true, eqb-true}
 use lib.Dec.{ltb, eqb}
 use lib.ListN.{length}
-use Rattle.time.proofs.Bools.{both}
+use Rattle.std.proofs.lemmas.Bool.{and_parts}
 use Rattle.time.specs.declared.Time.{Time}
 use Rattle.control.specs.declared.Mode.{Mode}
 use Rattle.control.specs.declared.Mode.TheVariants.{Active, Subactive, Sleep, Subsleep, Watch, Standby}
@@ -54,8 +54,8 @@ mode-known (suc (suc (suc (suc (suc (suc b)))))) h = absurd (omega (arith, leb-t
 pending-known : (b a : ℕ) (t : Time) → option_known b ≡ true → nothing_clear b a t ≡ true
     → (option_byte (pending_of b a t) ≡ b) × (pending_address (pending_of b a t) ≡ a) × (pending_instant (pending_of b a t) ≡ t)
 pending-known zero a t h g =
-    let l = both (eqb a 0 && eqb t.0 0) (eqb t.1 0) g in
-    let m = both (eqb a 0) (eqb t.0 0) l.0 in
+    let l = and_parts (eqb a 0 && eqb t.0 0) (eqb t.1 0) g in
+    let m = and_parts (eqb a 0) (eqb t.0 0) l.0 in
     (refl, sym (eqb-true a 0 m.0), λ i. record { 0 = sym (eqb-true t.0 0 m.1) i; 1 = sym (eqb-true t.1 0 l.1) i })
 pending-known (suc zero) a t h g = (refl, refl, refl)
 pending-known (suc (suc b)) a t h g = absurd (omega (arith, leb-true (suc (suc b)) 1 h))
@@ -76,11 +76,11 @@ tests rows h =
     let clear = nothing_clear (at (part rows 0) 9) (at (part rows 1) 1) (time_of (part rows 2) 14) in
     let control = control_clear (at (part rows 0) 0) in
     let page = placed (at (part rows 1) 0) page_bytes in
-    let p = both (legible rows) (in_range rows) h in
-    let l = both (known && clear) (slots_sound (part rows 5)) p.0 in
-    let m = both known clear l.0 in
-    let r = both (control && page) (placed (at (part rows 1) 1) 4) p.1 in
-    let q = both control page r.0 in
+    let p = and_parts (legible rows) (in_range rows) h in
+    let l = and_parts (known && clear) (slots_sound (part rows 5)) p.0 in
+    let m = and_parts known clear l.0 in
+    let r = and_parts (control && page) (placed (at (part rows 1) 1) 4) p.1 in
+    let q = and_parts control page r.0 in
     record { head = m.0; clear = m.1; slots = l.1; control = q.0; page = q.1; address = r.1 }
 
 accepted-tests : (xs : List ℕ) → accepted xs ≡ true → Tests (rows_in xs)
@@ -108,13 +108,13 @@ head-tests head h =
     let b6 = flag_known (at head 6) in
     let b7 = mode_known (at head 7) in
     let b8 = flag_known (at head 8) in
-    let p9 = both (b1 && b3 && b4 && b5 && b6 && b7 && b8) (option_known (at head 9)) h in
-    let p8 = both (b1 && b3 && b4 && b5 && b6 && b7) b8 p9.0 in
-    let p7 = both (b1 && b3 && b4 && b5 && b6) b7 p8.0 in
-    let p6 = both (b1 && b3 && b4 && b5) b6 p7.0 in
-    let p5 = both (b1 && b3 && b4) b5 p6.0 in
-    let p4 = both (b1 && b3) b4 p5.0 in
-    let p3 = both b1 b3 p4.0 in
+    let p9 = and_parts (b1 && b3 && b4 && b5 && b6 && b7 && b8) (option_known (at head 9)) h in
+    let p8 = and_parts (b1 && b3 && b4 && b5 && b6 && b7) b8 p9.0 in
+    let p7 = and_parts (b1 && b3 && b4 && b5 && b6) b7 p8.0 in
+    let p6 = and_parts (b1 && b3 && b4 && b5) b6 p7.0 in
+    let p5 = and_parts (b1 && b3 && b4) b5 p6.0 in
+    let p4 = and_parts (b1 && b3) b4 p5.0 in
+    let p3 = and_parts b1 b3 p4.0 in
     record { error = p3.0; enabled = p3.1; power_down = p4.1; supply = p5.1; oscillator = p6.1; mode = p7.1; «module» = p8.1; option = p9.1 }
 
 -- ---- read, then written
@@ -147,7 +147,7 @@ accepted-writes-back xs l b h = ap (packed layout) (rows_back xs (accepted-tests
 
 pub placed-says : (a step : ℕ) → placed a step ≡ true → (a % step ≡ 0) × (a < array_bytes)
 placed-says a step e =
-    let p = both (eqb (a % step) 0) (ltb a array_bytes) e in
+    let p = and_parts (eqb (a % step) 0) (ltb a array_bytes) e in
     (eqb-true (a % step) 0 p.0, ltb-true a array_bytes p.1)
 
 pending-sound : (b a : ℕ) (t : Time) → placed a 4 ≡ true → PendingSound (pending_of b a t)

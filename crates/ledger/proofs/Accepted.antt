@@ -1,12 +1,11 @@
 -- What is known where no line of the table is given: each line's condition is false. So the words lent to an accepted call are enough
 -- for its events, and its words up to its count are these. Assumes nothing.
 use mathlib.Core.Path.{◌≡◌, refl}
-use mathlib.Core.Bool.{Bool, true, false, ◌&&◌}
+use mathlib.Core.Bool.{Bool, false, ◌&&◌}
 use mathlib.Core.List.{List, [], ◌∷◌, ◌++◌}
 use Prim.Native.Nat.{ℕ, ◌≤◌, ◌<◌}
 use native.Mathlib.Omega.{arith}
-use borrow.Author.Tests.{ltb-false, leb-false, lt-ltb}
-use lib.Dec.{leb, ltb}
+use borrow.Author.Tests.{ltb-false, leb-false}
 use lib.ListN.{length, take, get_or-append}
 use lib.Seq.{sets, sets-eq, take_at}
 use Rattle.time.specs.declared.Time.{Time}
@@ -22,6 +21,7 @@ use Rattle.lent.specs.declared.Request.{Request}
 use Rattle.lent.specs.Memory.{Memory, chip_in, Check, check, first_given, misfits, last_second, too_early, too_few_words}
 use Rattle.lent.specs.Asked.{call_of, misplaced, refusal}
 use Rattle.lent.proofs.Lines.{line}
+use Rattle.lent.proofs.Tells.{words-enough}
 use Rattle.lent.specs.Looked.{sized_checks}
 
 -- ---- the lines
@@ -45,9 +45,6 @@ passed misplaced t m more e =
 
 -- ---- an accepted call's words
 
-few-false : (s : Bool) (range words : ℕ) → (s && (ltb 0 range && leb words range)) ≡ false → s ≡ true → 1 ≤ range → range < words
-few-false s range words e h k = leb-false words range (rw (h, lt-ltb 0 range k) at e)
-
 -- line 7, which a call has after the others
 abbrev pub words_line : Request → Time → ℕ → Memory → List Check
 words_line q now words m =
@@ -62,7 +59,7 @@ module _ (q : Request) (now : Time) (words : ℕ) (m : Memory) (e : refusal q no
   enough =
       let r = registers (chip_in m) in
       let l7 = line 6 (settles (call_of q) now r && too_few_words (pulse r) words) 0 call-passed.rest in
-      events-room (call_of q) now (chip_in m) words (few-false (settles (call_of q) now r) (range_bytes (pulse r)) words l7.0)
+      events-room (call_of q) now (chip_in m) words (words-enough (settles (call_of q) now r) (range_bytes (pulse r)) words l7.0)
 
 -- ---- words and bytes left at the beginning of what was lent
 

@@ -8,7 +8,7 @@ use Prim.Native.Nat.{ℕ, ◌<◌, ◌≤◌}
 use borrow.Author.Tests.{eqb-true, eq-eqb}
 use lib.Dec.{eqb}
 use Rattle.std.specs.Prelude.{Option, Some, None}
-use Rattle.time.proofs.Bools.{both}
+use Rattle.std.proofs.lemmas.Bool.{and_parts}
 use Rattle.time.specs.declared.Time.{Time}
 use Rattle.time.specs.Raw.{raw}
 use Rattle.cell.specs.declared.Direction.{Direction}
@@ -30,7 +30,7 @@ same-direction Erase Erase h = refl
 
 same-time : (s t : Time) → same_time s t ≡ true → s ≡ t
 same-time s t h =
-    let b = both (eqb s.0 t.0) _ h in
+    let b = and_parts (eqb s.0 t.0) _ h in
     let e = eqb-true s.0 t.0 b.0 in
     let f = eqb-true s.1 t.1 b.1 in
     λ i. record { 0 = e i; 1 = f i }
@@ -41,9 +41,9 @@ same-pulse None None h = refl
 same-pulse None (Some q) h = absurd (true≢false (sym h))
 same-pulse (Some p) None h = absurd (true≢false (sym h))
 same-pulse (Some p) (Some q) h =
-    let b = both (same_direction p.direction q.direction && eqb p.first q.first && eqb p.pages q.pages) _ h in
-    let b' = both (same_direction p.direction q.direction && eqb p.first q.first) _ b.0 in
-    let b'' = both (same_direction p.direction q.direction) _ b'.0 in
+    let b = and_parts (same_direction p.direction q.direction && eqb p.first q.first && eqb p.pages q.pages) _ h in
+    let b' = and_parts (same_direction p.direction q.direction && eqb p.first q.first) _ b.0 in
+    let b'' = and_parts (same_direction p.direction q.direction) _ b'.0 in
     let d = same-direction p.direction q.direction b''.0 in
     let f = eqb-true p.first q.first b''.1 in
     let n = eqb-true p.pages q.pages b'.1 in

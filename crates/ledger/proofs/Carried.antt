@@ -26,7 +26,8 @@ use Rattle.ledger.specs.Lists.{Asked, asked, Numbers, Typed, memory_after, words
 use Rattle.flash.proofs.Inside.{pulse_inside}
 use Rattle.ledger.proofs.Words.{applied-append, ends-append}
 use Rattle.ledger.proofs.Agree.{Agree, agree-step, step-array, step-stored, step-applied, step-bytes, step-ends}
-use Rattle.ledger.proofs.Kept.{fits-step, sound-step, numbers-arguments, request-placed}
+use Rattle.lent.proofs.Tells.{request-placed}
+use Rattle.ledger.proofs.Kept.{fits-step, sound-step, numbers-arguments}
 use Rattle.ledger.proofs.Accepted.{Passed, words_line, call-passed, enough, words-given}
 
 -- ---- between calls

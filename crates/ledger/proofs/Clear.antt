@@ -15,7 +15,8 @@ use Rattle.lent.specs.Asked.{call_of, call_refusal, refusal, outcome_by, outcome
 use Rattle.ledger.specs.Ledger.{Ledger, entered}
 use Rattle.ledger.specs.Lists.{Asked, Typed, events_of}
 use Rattle.ledger.proofs.Agree.{Agree, agree-step}
-use Rattle.ledger.proofs.Kept.{fits-step, sound-step, numbers-arguments, request-placed}
+use Rattle.lent.proofs.Tells.{request-placed}
+use Rattle.ledger.proofs.Kept.{fits-step, sound-step, numbers-arguments}
 use Rattle.ledger.proofs.Accepted.{call-passed, enough, words-given}
 use Rattle.ledger.proofs.Carried.{carries}
 

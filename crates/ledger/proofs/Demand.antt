@@ -8,7 +8,7 @@ use native.Mathlib.Omega.{arith}
 use borrow.Author.Tests.{leb-false, ltb-false, eq-eqb}
 use lib.Dec.{ltb}
 use lib.ListN.{length}
-use Rattle.time.proofs.Bools.{neither}
+use Rattle.std.proofs.lemmas.Bool.{or_parts}
 use Rattle.time.specs.declared.Time.{Time}
 use Rattle.cell.specs.Cell.{at}
 use Rattle.registers.specs.Pulses.{pulse, normal}
@@ -44,7 +44,7 @@ module _ (m : Memory) (led : Ledger) (a : Carries m led) where
   unfolding charge_refusal sized_refusal charge_answer charge_at
   charge-look b bit t e =
       let p = passed (past_end b || bit_over bit) t m [] e in
-      let o = neither (past_end b) (bit_over bit) p.placed in
+      let o = or_parts (past_end b) (bit_over bit) p.placed in
       look-settled a.agree t p.since (8 * b + bit) (omega (arith, leb-false 49152 b o.0, ltb-false 7 bit o.1))
 
   peek-look : (b : ℕ) (t : Time) → peek_refusal b t m ≡ 0 → peek_answer b t m ≡ normal_byte (look t led) b

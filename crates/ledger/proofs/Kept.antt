@@ -5,7 +5,7 @@ use mathlib.Core.Bool.{Bool, true, false, ◌&&◌}
 use mathlib.Core.List.{List, [], ◌∷◌}
 use Prim.Native.Nat.{ℕ, zero, suc, ◌+◌, ◌*◌, ◌%◌, ◌^◌, ◌<◌}
 use native.Mathlib.Omega.{arith}
-use borrow.Author.Tests.{ltb-true, lt-ltb, leb-false}
+use borrow.Author.Tests.{ltb-true}
 use lib.Pow.{shr_lt}
 use lib.ListN.{set, replicate, length-set, length-replicate}
 use Rattle.time.proofs.Bools.{either}
@@ -31,7 +31,7 @@ use Rattle.settle.proofs.Expose.{settled-slots}
 use Rattle.layout.specs.Whole.{RowFits, TimeFits, PendingFits, RegistersFit, Fits, PendingSound, Sound}
 use Rattle.lent.specs.declared.Request.{Request}
 use Rattle.lent.specs.declared.Request.TheVariants as asks
-use Rattle.lent.specs.Asked.{call_of, misplaced}
+use Rattle.lent.specs.Asked.{call_of}
 use Rattle.snapshot.proofs.IndexBack.{index-fits}
 use Rattle.ledger.specs.Lists.{Numbers}
 use Rattle.ledger.proofs.Values.{Ask, HeldBy, Anew, Given, next-held}
@@ -254,13 +254,3 @@ numbers-arguments asks.Protect h = tt
 numbers-arguments asks.Reset h = tt
 numbers-arguments asks.PowerOff h = tt
 numbers-arguments (asks.Environment mode modul oscillator) h = tt
-
-pub request-placed : (q : Request) → misplaced q ≡ false → placed (call_of q) ≡ true
-request-placed (asks.WriteRegister a v) e = refl
-request-placed (asks.Write8 a v) e = lt-ltb a 49152 (leb-false 49152 a e)
-request-placed (asks.Read8 a) e = lt-ltb a 49152 (leb-false 49152 a e)
-request-placed (asks.Read16 a) e = lt-ltb (suc a) 49152 (leb-false 49152 (suc a) e)
-request-placed asks.Protect e = refl
-request-placed asks.Reset e = refl
-request-placed asks.PowerOff e = refl
-request-placed (asks.Environment mode modul oscillator) e = refl

@@ -10,7 +10,7 @@ use Rattle.control.specs.Bits.{EBR1, SWE, has, erase_value}
 use Rattle.registers.specs.Access.{settled, register_set, write_register}
 use Rattle.control.specs.Blocks.{erase_range}
 use Rattle.registers.proofs.Laws.{settled-fields}
-use Rattle.registers.proofs.Tests.{cond_yes}
+use Rattle.std.proofs.lemmas.Bool.{cond-true}
 use Rattle.ledger.specs.Worked.{Worked}
 use Rattle.ledger.proofs.Programmed.{programmed}
 
@@ -19,7 +19,7 @@ erase-stored : (v : ℕ) (now : Time) (r : Registers) → r.enabled ≡ true →
 unfolding write_register register_set
 erase-stored v now r e s =
     let t : has (settled now r).control SWE ≡ true = ap (λ (x : Registers). has x.control SWE) (settled-fields now r) ∙ s in
-    rw (cond_yes r.enabled _ _ e, cond_yes (has (settled now r).control SWE) _ _ t)
+    rw (cond-true r.enabled _ _ e, cond-true (has (settled now r).control SWE) _ _ t)
 
 pub worked : Worked
 unfolding class_of limit_of exposed moved erase_range

@@ -1,14 +1,13 @@
 -- The outcome of a call, from its checks: the first line that is given makes the number and leaves everything, and with none given what
 -- the call performs is the outcome. Assumes nothing.
 use mathlib.Core.Path.{◌≡◌, refl, ap, sym, ◌∙◌}
-use mathlib.Core.Bool.{Bool, true, false, cond, ◌&&◌, true≢false}
+use mathlib.Core.Bool.{Bool, true, false, cond, ◌&&◌}
 use mathlib.Core.List.{List}
 use Prim.Native.Nat.{ℕ, zero, suc, ◌-◌, ◌^◌, ◌≤◌, ◌<◌}
 use native.Mathlib.Omega.{arith}
 use lib.Dec.{leb, ltb, lit<}
 use lib.ListN.{length}
 use borrow.Author.Tests.{leb-false, lt-ltb}
-use Rattle.std.specs.Prelude.{Option}
 use Rattle.refusal.specs.declared.Refusal.{Refusal}
 use Rattle.refusal.specs.Refusal.{number}
 use Rattle.refusal.proofs.Outcomes.{number-some}
@@ -24,7 +23,6 @@ use Rattle.flash.specs.Chip.{placed, answer_limit, Performed}
 use Rattle.layout.specs.Layout.{encoded, decoded}
 use Rattle.lent.specs.declared.Request.{Request}
 use Rattle.lent.specs.declared.Request.TheVariants.{WriteRegister, Write8, Read8, Read16, Protect, Reset, PowerOff, Environment}
-use Rattle.registers.specs.declared.Pulse.{Pulse}
 use Rattle.lent.proofs.Lines.{given-first, given-after}
 use Rattle.lent.specs.Looked.{memory_checks, memory_refusal}
 use Rattle.lent.specs.Memory.{Memory, chip_in, last_second, too_early, too_few_words}
@@ -57,13 +55,8 @@ pub record Passes (q : Request) (now : Time) (words : ℕ) (s : Flash) : Type 0 
   pub in_time : BeforeLastSecond now
   pub enough : settles (call_of q) now s.registers ≡ true → 1 ≤ range_bytes (pulse s.registers) → range_bytes (pulse s.registers) < words
 
-words-enough : (a : Bool) (o : Option Pulse) (n : ℕ) → (a && too_few_words o n) ≡ false → a ≡ true → 1 ≤ range_bytes o → range_bytes o < n
-words-enough false o n e h g = absurd (true≢false (sym h))
-words-enough true o n e h g = leb-false n (range_bytes o) (by (ltb 0 (range_bytes o)) (leb n (range_bytes o)) (lt-ltb 0 (range_bytes o) g) e)
-  where
-    by : (x y : Bool) → x ≡ true → (x && y) ≡ false → y ≡ false
-    by true y p r = r
-    by false y p r = absurd (true≢false (sym p))
+pub words-enough : (s : Bool) (range words : ℕ) → (s && (ltb 0 range && leb words range)) ≡ false → s ≡ true → 1 ≤ range → range < words
+words-enough s range words e h k = leb-false words range (rw (h, lt-ltb 0 range k) at e)
 
 pub passes : (q : Request) (now : Time) (words : ℕ) (s : Flash) → call_refusal q now words s ≡ 0 → Passes q now words s
 unfolding call_refusal
@@ -73,7 +66,7 @@ passes q now words s e =
     by : (a b c d : Bool) → misplaced q ≡ a → last_second now ≡ b → (settles (call_of q) now s.registers && too_few_words (pulse s.registers) words) ≡ d
         → ◌≡◌ {A = ℕ} (cond a 4 (cond b 5 (cond c 6 (cond d 7 0)))) 0 → Passes q now words s
     by false false false false x y z h =
-        record { placed_is = request-placed q x; in_time = leb-false (2 ^ 64 - 1) now.0 y; enough = words-enough _ (pulse s.registers) words z }
+        record { placed_is = request-placed q x; in_time = leb-false (2 ^ 64 - 1) now.0 y; enough = words-enough _ (range_bytes (pulse s.registers)) words z }
     by false false false true x y z h = absurd (omega (arith, h))
     by false false true d x y z h = absurd (omega (arith, h))
     by false true c d x y z h = absurd (omega (arith, h))

@@ -1,16 +1,17 @@
 -- Light calls: a register write that is accepted where no sense is pending and no pulse is open changes registers and, where it settles,
 -- the last settling, and nothing else. So a replay goes on after it with these alone changed. Assumes nothing.
 use mathlib.Core.Path.{◌≡◌, refl}
-use mathlib.Core.Bool.{Bool, true, false, cond, not, ◌&&◌, ◌||◌, true≢false}
+use mathlib.Core.Bool.{Bool, true, false, cond, not, ◌&&◌, ◌||◌, true≢false, and-false}
 use mathlib.Core.List.{List, []}
 use Prim.Native.Nat.{ℕ, ◌^◌, ◌<◌}
 use borrow.Author.Tests.{ltb-true, not-true}
 use lib.Dec.{eqb, ltb, lit<}
-use Rattle.time.proofs.Bools.{both}
+use Rattle.std.proofs.lemmas.Bool.{and_parts}
 use Rattle.time.specs.declared.Time.{Time}
 use Rattle.time.specs.Raw.{raw}
 use Rattle.std.specs.Prelude.{None, Some}
 use Rattle.control.specs.Bits.{FENR, SWE, ESU, PSU, E, P, has, low}
+use Rattle.registers.proofs.Laws.{either-way}
 use Rattle.registers.specs.declared.Registers.{Registers}
 use Rattle.registers.specs.declared.Call.TheVariants as call
 use Rattle.registers.specs.Pulses.{program_pulse, erase_pulse, pulse}
@@ -26,14 +27,6 @@ use Rattle.lent.specs.Asked.{call_refusal}
 use Rattle.light.specs.Writes.{may_pulse, opens, is_light, since_after}
 
 -- ---- tests
-
-pub same-either : {A : Type 0} (x : A) (b : Bool) → cond b x x ≡ x
-same-either x true = refl
-same-either x false = refl
-
-and-false : (b : Bool) → (b && false) ≡ false
-and-false true = refl
-and-false false = refl
 
 -- registers whose control opens no pulse have none
 pub closed-pulse : (r : Registers) → opens (may_pulse r) r.control ≡ false → pulse r ≡ None
@@ -59,9 +52,9 @@ pub record Says (may : Bool) (control : ℕ) (since : Time) (what : ℕ) (t : Ti
 pub light-says : (may : Bool) (control : ℕ) (since : Time) (what : ℕ) (t : Time) → is_light may control since what t ≡ true → Says may control since what t
 unfolding is_light
 light-says may control since what t e =
-    let c = both _ (not (opens may control)) e in
-    let b = both _ (not (ltb (raw t) (raw since))) c.0 in
-    let a = both (ltb what (2 ^ 24)) (not (last_second t)) b.0 in
+    let c = and_parts _ (not (opens may control)) e in
+    let b = and_parts _ (not (ltb (raw t) (raw since))) c.0 in
+    let a = and_parts (ltb what (2 ^ 24)) (not (last_second t)) b.0 in
     record { a_write = ltb-true what (2 ^ 24) a.0; not_last = not-true _ a.1; not_early = not-true _ b.1; opens_none = not-true _ c.1 }
 
 -- ---- one write
@@ -78,7 +71,7 @@ module _ (a v : ℕ) (t : Time) (k : Chip) (shut : pulse (registers k) ≡ None)
       by : (b : Bool) → step_if b (call.WriteRegister a v) t k
           ≡ record { chip = record { flash = record { registers = write_register a v t (registers k); pulse_since = cond b t k.flash.pulse_since; sensed = k.flash.sensed; indices = k.flash.indices }; array = k.array; charges = k.charges }; events = [] }
       by false = refl
-      by true = rw (shut, nothing, changes-same 0 k.array, same-either {A = List ℕ} [])
+      by true = rw (shut, nothing, changes-same 0 k.array, either-way {A = List ℕ})
 
   pub light-performed : (lent : List ℕ) → Performed (call.WriteRegister a v) t k lent written k.array k.charges lent 0 0
   unfolding answer

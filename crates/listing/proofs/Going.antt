@@ -12,7 +12,7 @@ use borrow.Author.Tests.{not-false}
 use lib.Dec.{eqb, eqb-suc-zero}
 use lib.ListN.{length, take}
 use lib.Seq.{sets}
-use Rattle.time.proofs.Bools.{neither}
+use Rattle.std.proofs.lemmas.Bool.{or_parts}
 use Rattle.time.specs.declared.Time.{Time}
 use Rattle.flash.specs.Chip.{Chip, step, answer}
 use Rattle.lent.specs.declared.Request.{Request}
@@ -62,8 +62,8 @@ last-memory (q ∷ qs) o = last-memory qs (asked q o.memory)
 quiet : (number count : ℕ) (read : Bool) (events : List ℕ) → (not (eqb number 0) || not (eqb count 0) || read) ≡ false → take count events ≡ []
 quiet number zero read events e = refl
 quiet number (suc count) read events e =
-    let z = (neither (not (eqb number 0) || not (eqb (suc count) 0)) read e).0 in
-    absurd (true≢false (rw (eqb-suc-zero count) at (neither (not (eqb number 0)) (not (eqb (suc count) 0)) z).1))
+    let z = (or_parts (not (eqb number 0) || not (eqb (suc count) 0)) read e).0 in
+    absurd (true≢false (rw (eqb-suc-zero count) at (or_parts (not (eqb number 0)) (not (eqb (suc count) 0)) z).1))
 
 last-words : (n i : ℕ) (calls : List ℕ) (o : Outcome) → words_of o ≡ []
     → words_of (last_of (asks_after o n i calls) o) ≡ events_of (asks_after o n i calls) o.memory
@@ -131,11 +131,11 @@ unsaid q t lent m e = by (refusal q t (length lent) m) e
     by : (n : ℕ) → stops q (outcome_by n q t lent m).number (outcome_by n q t lent m).count ≡ false
         → outcome_by n q t lent m ≡ idle lent (outcome_by n q t lent m).memory
     by zero e =
-        let p = neither _ (reads q) e in
+        let p = or_parts _ (reads q) e in
         let done = step (call_of q) t (chip_in m) in
-        let z = none done.events (not-false _ (neither (not (eqb 0 0)) _ p.0).1) in
+        let z = none done.events (not-false _ (or_parts (not (eqb 0 0)) _ p.0).1) in
         λ i. record { number = 0; value = unread q t (chip_in m) p.1 i; memory = memory_of done.chip; events = sets lent 0 (z i); count = length (z i) }
-    by (suc n) e = absurd (true≢false (rw (eqb-suc-zero n) at (neither (not (eqb (suc n) 0)) _ (neither _ (reads q) e).0).0))
+    by (suc n) e = absurd (true≢false (rw (eqb-suc-zero n) at (or_parts (not (eqb (suc n) 0)) _ (or_parts _ (reads q) e).0).0))
 
 -- ---- the first call is refused
 

@@ -7,6 +7,7 @@ use native.Mathlib.Nat.{div-lt_iff_lt-mul}
 use native.Mathlib.Omega.{arith}
 use borrow.Author.Tests.{ltb-true}
 use lib.Dec.{eqb, ltb}
+use Rattle.time.proofs.Bools.{either}
 use Rattle.cell.specs.Cell.{array_bytes, pages}
 use Rattle.control.specs.Blocks.{erase_range}
 use Rattle.control.specs.declared.Range.{Range}
@@ -23,11 +24,6 @@ use Rattle.options.specs.declared.Parameter.TheVariants as parameter
 use Rattle.options.specs.declared.Stage.{Stage}
 use Rattle.options.specs.declared.Stage.TheVariants.{Open, Wants, Helped, Wrong}
 use Rattle.options.specs.declared.Trouble.{Trouble}
-
--- what holds of both ways holds of a choice
-either_way : {A : Type 0} (P : A → Type 0) (t : Bool) {x y : A} → P x → P y → P (cond t x y)
-either_way P true p q = p
-either_way P false p q = q
 
 -- ---- numbers and pages
 
@@ -50,11 +46,11 @@ RangeLies r = r.first + r.pages ≤ pages
 erase-lies : (e : ℕ) → RangeLies (erase_range e)
 unfolding erase_range
 erase-lies e =
-    either_way RangeLies (eqb e 1) (omega arith)
-    (either_way RangeLies (eqb e 2) (omega arith)
-    (either_way RangeLies (eqb e 4) (omega arith)
-    (either_way RangeLies (eqb e 8) (omega arith)
-    (either_way RangeLies (eqb e 16) (omega arith) (either_way RangeLies (eqb e 32) (omega arith) (omega arith))))))
+    either RangeLies (eqb e 1) (omega arith)
+    (either RangeLies (eqb e 2) (omega arith)
+    (either RangeLies (eqb e 4) (omega arith)
+    (either RangeLies (eqb e 8) (omega arith)
+    (either RangeLies (eqb e 16) (omega arith) (either RangeLies (eqb e 32) (omega arith) (omega arith))))))
 
 page-lies : (a : ℕ) → a < 0xC000 → a / 128 < pages
 page-lies a h = (div-lt_iff_lt-mul {k = 128} {x = a} {y = 384} (omega arith)).1 (omega arith)
@@ -73,7 +69,7 @@ ResultLies r = IfOk r PagesLie
 
 pages-lie : (b f t : Option ℕ) → IfSome f (λ n. n < array_bytes) → IfSome t (λ n. n < array_bytes) → RangeAskedLies (pages_asked b f t)
 pages-lie None None None h k = omega arith
-pages-lie None (Some from) (Some to) h k = either_way RangeAskedLies (ltb to from) tt (touched-lies from to h k)
+pages-lie None (Some from) (Some to) h k = either RangeAskedLies (ltb to from) tt (touched-lies from to h k)
 pages-lie None (Some from) None h k = tt
 pages-lie None None (Some to) h k = tt
 pages-lie (Some b) None None h k = erase-lies (2 ^ b)

@@ -26,9 +26,9 @@ use Rattle.registers.specs.Environment.{unchanged, clears, reset, power_off, env
 use Rattle.registers.specs.Calls.{settles, next}
 
 -- a test between a value and itself
-same : {A : Type 0} (b : Bool) (x : A) → cond b x x ≡ x
-same true x = refl
-same false x = refl
+pub either-way : {A : Type 0} (b : Bool) (x : A) → cond b x x ≡ x
+either-way true x = refl
+either-way false x = refl
 
 -- ---- settling
 
@@ -62,7 +62,7 @@ settled-due now r = by (sense_due r.verify_pending r.supply now) refl
 -- no pulse is open while control's low four bits are 0
 pub low-closed : (r : Registers) → low r.control ≡ 0 → pulse r ≡ None
 unfolding pulse
-low-closed r e = rw e (same (powered r) None)
+low-closed r e = rw e (either-way (powered r) None)
 
 -- nor while reading is normal
 pub normal-closed : (now : Time) (r : Registers) → normal now r ≡ true → pulse r ≡ None
@@ -98,7 +98,7 @@ tripped-latch (Some p) now r = settled-latch now r
 -- with no pulse open and no sense due a read changes nothing
 read8-closed : (now : Time) (r : Registers) → pulse r ≡ None → sense_due r.verify_pending r.supply now ≡ false → read8 now r ≡ r
 unfolding read8 settled
-read8-closed now r p d = rw (p, d) (same (normal now r) r)
+read8-closed now r p d = rw (p, d) (either-way (normal now r) r)
 
 -- so the second of two reads changes nothing
 pub read8-again : (now : Time) (r : Registers) → read8 now (read8 now r) ≡ read8 now r

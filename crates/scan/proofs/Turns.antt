@@ -4,7 +4,7 @@
 use Rattle.std.proofs.Common.{◌≡◌, ℕ, zero, suc, ◌+◌, ◌-◌, ◌*◌, ◌/◌, ◌%◌, ◌<◌, ◌≤◌, Bool, true, false, cond, ◌&&◌, eqb, ltb, leb, List, ◌∷◌, length, drop, sym, refl, ◌∙◌, add-one, arith, drop_of_length-le, drop-cons, ltb-false, ltb-true, le-ltb, lt-ltb, le-leb, leb-false}
 use Rattle.std.specs.Prelude.{Result, Ok, Err, OnOk}
 use borrow.Author.Tests.{lt-leb}
-use Rattle.time.proofs.Bools.{both}
+use Rattle.std.proofs.lemmas.Bool.{and_parts}
 use Rattle.cell.specs.Cell.{at, page_bytes, page_cells, pages, array_bytes}
 use Rattle.flash.specs.Chip.{no_pages}
 use Rattle.layout.specs.Layout.{word, placed}
@@ -27,7 +27,7 @@ pub first_stops : {m r : ℕ} (n : ℕ) → r ≡ m → (r ≡ 0 → ⊥) → r 
 first_stops {m = zero} n e z = absurd (z e)
 first_stops {m = suc m} n e z = e
 
--- what is so after both outcomes
+-- what is so after and_parts outcomes
 pub on_ok : {A E : Type 0} {P : Type 0} (outcome : Result A E) → P → OnOk outcome P
 on_ok (Ok value) p = p
 on_ok (Err e) p = tt
@@ -49,7 +49,7 @@ not-ten false e = absurd (omega arith)
 -- a page's address is of one of the pages
 pub placed-page : (address : ℕ) → placed address page_bytes ≡ true → address / page_bytes < pages
 placed-page address e =
-    let l = ltb-true address array_bytes (both (eqb (address % page_bytes) 0) (ltb address array_bytes) e).1 in
+    let l = ltb-true address array_bytes (and_parts (eqb (address % page_bytes) 0) (ltb address array_bytes) e).1 in
     omega arith
 
 pub address-fits : (index xs : List ℕ) (place : ℕ) → address_number index xs place ≡ 0
@@ -59,7 +59,7 @@ address-fits index xs place e =
     let w = word 2 xs place in
     let free = eqb (at index (w / page_bytes)) 0 in
     let n = not-nine (ltb (length xs) (place + 2)) (cond (placed w page_bytes && free) 0 10) e in
-    let p = both (placed w page_bytes) free (not-ten (placed w page_bytes && free) n.1) in
+    let p = and_parts (placed w page_bytes) free (not-ten (placed w page_bytes && free) n.1) in
     (ltb-false (length xs) (place + 2) n.0, placed-page w p.0)
 
 -- ---- limited bytes, from limit i on

@@ -10,7 +10,7 @@ use borrow.Author.Tests.{eq-eqb, ne_eqb}
 use lib.Dec.{eqb}
 use lib.ListN.{length}
 use Rattle.time.specs.declared.Time.{Time}
-use Rattle.time.proofs.Bools.{neither}
+use Rattle.std.proofs.lemmas.Bool.{or_parts}
 use Rattle.cell.specs.Cell.{at}
 use Rattle.lent.specs.declared.Request.{Request}
 use Rattle.lent.specs.declared.Request.TheVariants.{WriteRegister, Write8, Read8, Read16, Protect, Reset, PowerOff, Environment}
@@ -106,7 +106,7 @@ module _ (w : Manner) (n : ℕ) (a : Asking) (c : Course) (said : List ℕ) (cs 
   called-quiet on e =
       let p = after a o in
       let quiet : p ≡ idle o.events p.memory = unsaid a.request a.time o.events o.memory e in
-      called_on on ∙ rw quiet (noted-idle o.events p.memory (neither (not (eqb p.number 0) || not (eqb p.count 0)) (reads a.request) e).1)
+      called_on on ∙ rw quiet (noted-idle o.events p.memory (or_parts (not (eqb p.number 0) || not (eqb p.count 0)) (reads a.request) e).1)
 
 -- ---- one call after the other
 

@@ -6,6 +6,7 @@ use mathlib.Core.Path.{◌≡◌, refl, sym, ap, ◌∙◌}
 use native.Mathlib.Omega.{arith}
 use lib.Dec.{eqb}
 use lib.ListN.{length, take}
+use Rattle.std.proofs.lemmas.Bool.{true_from_ne_false}
 use Rattle.lent.specs.Memory.{Memory}
 use Rattle.grammar.specs.declared.Line.TheVariants as line
 use Rattle.std.specs.Prelude.{Option, None, Some, IfSome, option_to_list}
@@ -73,10 +74,6 @@ goes_on w more more' more'' r r' r'' g h = record {
 
 -- ---- a step
 
-running-then : (running : Bool) → (running ≡ false → ⊥) → running ≡ true
-running-then true h = refl
-running-then false h = absurd (h refl)
-
 module _ (w : Manner) (r : Run) (piece : List ℕ) (piece-long : length (take r.have piece) ≡ r.have) where
   module _ {b : Backlog} {c : Course} {m : Memory} {events : List ℕ} {p : Place} {b' : Backlog} {noted : Noted} {m' : Memory} {events' out left : List ℕ}
       (k : Steps w r.place b (take r.have piece) (desk c m events) p b' noted m' events' out left) where
@@ -88,7 +85,7 @@ module _ (w : Manner) (r : Run) (piece : List ℕ) (piece-long : length (take r.
     step-passed e = let a = r.passed e in let b = k.onward in let d = k.inside in omega (arith, piece-long)
 
     pub step-none-left : (r.place.running ≡ false → r.place.at < r.have) → r.more ≡ false → p.running ≡ false → p.waiting ≡ 0
-    step-none-left bytes_left e h = k.none_left (running-then r.place.running (λ i. let a = r.passed e in let b = bytes_left i in omega arith)) h
+    step-none-left bytes_left e h = k.none_left (true_from_ne_false r.place.running (λ i. let a = r.passed e in let b = bytes_left i in omega arith)) h
 
     pub step-goes : Goes w r.more r.more (reader_of w r.place b (desk c m events)) (reader_of w p b' (desk noted.course m' events'))
     unfolding all_read

@@ -116,10 +116,6 @@ pub page-next : (f : ℕ → ℕ → ℕ) (c : Cells) (p : ℕ) → at c.index p
 unfolding on_page slot_for slot_of
 page-next f c p e = rw e
 
-pub page-array : (f : ℕ → ℕ → ℕ) (c : Cells) (p : ℕ) → (on_page f p c).array ≡ c.array
-unfolding on_page
-page-array f c p = refl
-
 -- ---- events
 
 pub changes-same : (a : ℕ) (xs : List ℕ) → changes a xs xs ≡ []

@@ -9,7 +9,7 @@ use native.Mathlib.Omega.{arith}
 use borrow.Author.Tests.{leb-true, le-leb, eqb-true, eq-eqb}
 use lib.ListN.{length, set}
 use lib.Dec.{leb, eqb, eqb-suc-zero}
-use Rattle.time.proofs.Bools.{both}
+use Rattle.std.proofs.lemmas.Bool.{and_parts}
 use Rattle.cell.specs.Cell.{at}
 use Rattle.settle.specs.Pages.{Cells, opened, holds, distinct, within, slots_sound}
 
@@ -54,8 +54,8 @@ next-lt {index} inv p h e = let l : p < length index = omega (arith, inv.pages) 
 within-le : (n : ℕ) (xs : List ℕ) (q : ℕ) → within n xs ≡ true → at xs q ≤ n
 unfolding within
 within-le n [] q e = omega arith
-within-le n (x ∷ xs) zero e = leb-true x n (both (leb x n) (within n xs) e).0
-within-le n (x ∷ xs) (suc q) e = within-le n xs q (both (leb x n) (within n xs) e).1
+within-le n (x ∷ xs) zero e = leb-true x n (and_parts (leb x n) (within n xs) e).0
+within-le n (x ∷ xs) (suc q) e = within-le n xs q (and_parts (leb x n) (within n xs) e).1
 
 le-within : (n : ℕ) (xs : List ℕ) → ((q : ℕ) → at xs q ≤ n) → within n xs ≡ true
 unfolding within
@@ -97,7 +97,7 @@ distinct-one (x ∷ xs) d zero zero k e f = refl
 distinct-one (x ∷ xs) d zero (suc r) k e f = absurd (not-again x xs r k d e f)
 distinct-one (x ∷ xs) d (suc q) zero k e f = absurd (not-again x xs q k d f e)
 distinct-one (x ∷ xs) d (suc q) (suc r) k e f =
-    ap suc (distinct-one xs (both (eqb x 0 || not (holds x xs)) (distinct xs) d).1 q r k e f)
+    ap suc (distinct-one xs (and_parts (eqb x 0 || not (holds x xs)) (distinct xs) d).1 q r k e f)
 
 one-distinct : (xs : List ℕ) → ((q r k : ℕ) → at xs q ≡ suc k → at xs r ≡ suc k → q ≡ r) → distinct xs ≡ true
 unfolding distinct
@@ -114,7 +114,7 @@ one-distinct (suc x ∷ xs) h =
 pub slots-from : (index charges : List ℕ) → length index ≡ 384 → length charges ≡ 393216 → slots_sound index ≡ true → Slots index charges
 unfolding slots_sound
 slots-from index charges h k e =
-    let s = both (within (opened index) index) (distinct index) e in
+    let s = and_parts (within (opened index) index) (distinct index) e in
     record {
       pages = h;
       room = k;
@@ -126,7 +126,7 @@ slots-from index charges h k e =
 pub entry-le : (index : List ℕ) → length index ≡ 384 → slots_sound index ≡ true → (q : ℕ) → at index q ≤ 384
 unfolding slots_sound
 entry-le index h e q =
-    let w = (both (within (opened index) index) (distinct index) e).0 in
+    let w = (and_parts (within (opened index) index) (distinct index) e).0 in
     omega (arith, within-le (opened index) index q w, opened-le index)
 
 pub slots-sound : {index charges : List ℕ} → Slots index charges → slots_sound index ≡ true

@@ -10,7 +10,7 @@ use borrow.Author.Tests.{lt-ltb, ltb-true, ltb-false, le-leb, eq-eqb, not-false}
 use lib.Dec.{ltb, leb, lit≤}
 use lib.ListN.{length, take, drop, get_or-append}
 use lib.Seq.{sets, sets-eq, length-sets}
-use Rattle.time.proofs.Bools.{both}
+use Rattle.std.proofs.lemmas.Bool.{and_parts}
 use Rattle.time.specs.declared.Time.{Time}
 use Rattle.time.specs.Raw.{raw}
 use Rattle.cell.specs.Cell.{at, FULL, page_bytes, pages, array_bytes, array_cells}
@@ -84,10 +84,10 @@ valid-sound t s e h =
     let b = ltb r.erase 64 in
     let p = placed r.page page_bytes in
     let q = pending_placed r.verify_pending in
-    let l4 = both (c && b && p && q) (leb (raw s.pulse_since) (raw t)) e in
-    let l3 = both (c && b && p) q l4.0 in
-    let l2 = both (c && b) p l3.0 in
-    let l1 = both c b l2.0 in
+    let l4 = and_parts (c && b && p && q) (leb (raw s.pulse_since) (raw t)) e in
+    let l3 = and_parts (c && b && p) q l4.0 in
+    let l2 = and_parts (c && b) p l3.0 in
+    let l1 = and_parts c b l2.0 in
     let page = placed-says r.page page_bytes l2.1 in
     record {
       control = ltb-true r.control 128 l1.0;

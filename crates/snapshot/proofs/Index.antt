@@ -118,7 +118,7 @@ module _ (index charges : List ℕ) (inv : Slots index charges) where
 
 -- ---- from charge pages to an index and back
 
-placed_is : (a : ℕ) → placed a 128 ≡ true → (a % 128 ≡ 0) × (a < 49152)
+pub placed_is : (a : ℕ) → placed a 128 ≡ true → (a % 128 ≡ 0) × (a < 49152)
 placed_is a e =
     let r = (and-eq-true_iff (eqb (a % 128) 0) (ltb a 49152)).0 e in
     (eqb-true (a % 128) 0 r.0, ltb-true a 49152 r.1)

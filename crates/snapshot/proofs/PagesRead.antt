@@ -1,12 +1,12 @@
 -- Charge pages read: the format's pages, each refused by those before it, are those that the places give, each refused by the page index.
 -- Both agree since an entry of the index is 0 if and only if its page is not among the pages before. Assumes nothing.
 use mathlib.Core.Path.{◌≡◌, refl, sym, ap, ◌∙◌}
-use mathlib.Core.Bool.{Bool, true, false, cond, not, ◌&&◌, ◌||◌, false≢true}
+use mathlib.Core.Bool.{Bool, true, false, cond, not, ◌&&◌, ◌||◌}
 use mathlib.Core.List.{List, [], ◌∷◌, ◌++◌}
 use Prim.Native.Nat.{ℕ, zero, suc, ◌+◌, ◌*◌, ◌/◌, ◌%◌, ◌<◌}
 use native.Mathlib.Nat.{zero-add, add-zero, add_assoc, zero-mul}
 use native.Mathlib.Omega.{arith}
-use borrow.Author.Tests.{eqb-true, eqb-false, ltb-true, eq-eqb, ne_eqb}
+use borrow.Author.Tests.{eqb-true, eqb-false, eq-eqb, ne_eqb}
 use lib.ListN.{length, set, drop, length-set, replicate, length-replicate, get_or-replicate}
 use lib.Seq.{get_or-set_same, get_or-set_other}
 use lib.Dec.{ltb, leb, eqb}
@@ -18,6 +18,7 @@ use Rattle.borsh.specs.Borsh.{read_all, array, vec}
 use Rattle.snapshot.specs.Snapshot.{ChargePage, addresses, charge, charge_page, indexed, cells_of}
 use Rattle.snapshot.specs.Asked.{first}
 use Rattle.snapshot.specs.Places.{count_place, pages_place, page_length, page_at, count_in, count_number, cell_number, cells_number, address_number, with_page, pages_number, pages_index, end_number, pages_cells}
+use Rattle.snapshot.proofs.Index.{placed_is}
 use Rattle.snapshot.proofs.Fixed.{tell, next-tell, tell-map, first-zero, first-tests, Reads, int-reads, only-reads, then-reads, array-reads}
 
 -- ---- charges
@@ -38,14 +39,6 @@ module _ (xs : List ℕ) (base : ℕ) where
 -- ---- the page index and the pages before
 
 -- what `placed` tells of a page's address
-placed-tells : (a : ℕ) → placed a 128 ≡ true → (a % 128 ≡ 0) × (a < 49152)
-placed-tells a h = by (eqb (a % 128) 0) (ltb a 49152) refl refl h
-  where
-    by : (p q : Bool) → eqb (a % 128) 0 ≡ p → ltb a 49152 ≡ q → (p && q) ≡ true → (a % 128 ≡ 0) × (a < 49152)
-    by true true e f g = (eqb-true (a % 128) 0 e, ltb-true a 49152 f)
-    by true false e f g = absurd (false≢true g)
-    by false q e f g = absurd (false≢true g)
-
 -- a page index that has the pages of these addresses and no others
 record Holding (index before : List ℕ) : Type 0 where
   long : length index ≡ 384
@@ -56,7 +49,7 @@ unfolding no_pages holds
 holding-none =
     record {
       long = length-replicate {A = ℕ} 384 0;
-      free = λ a h. eq-eqb (at (replicate 384 0) (a / 128)) 0 (get_or-replicate 384 (a / 128) 0 0 (omega (arith, placed-tells a h)));
+      free = λ a h. eq-eqb (at (replicate 384 0) (a / 128)) 0 (get_or-replicate 384 (a / 128) 0 0 (omega (arith, placed_is a h)));
     }
 
 holding-more : (index before : List ℕ) (w s : ℕ) → Holding index before → placed w 128 ≡ true
@@ -66,7 +59,7 @@ holding-more index before w s inv h =
     record { long = length-set index (w / 128) (suc s) ∙ inv.long; free = λ a k. by a k (eqb a w) refl }
   where
     t : (w % 128 ≡ 0) × (w < 49152)
-    t = placed-tells w h
+    t = placed_is w h
 
     by : (a : ℕ) → placed a 128 ≡ true → (b : Bool) → eqb a w ≡ b
         → eqb (at (set index (w / 128) (suc s)) (a / 128)) 0 ≡ not (b || holds a before)
@@ -74,7 +67,7 @@ holding-more index before w s inv h =
         let i : w / 128 < length index = omega (arith, inv.long, t) in
         rw (eqb-true a w e, get_or-set_same index (w / 128) (suc s) 0 i) (ne_eqb (suc s) 0 (λ z. omega arith))
     by a k false e =
-        let u = placed-tells a k in
+        let u = placed_is a k in
         rw (get_or-set_other index (w / 128) (a / 128) (suc s) 0 (λ z. eqb-false a w e (omega (arith, t)))) (inv.free a k)
 
 -- ---- charge pages

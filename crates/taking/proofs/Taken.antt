@@ -4,11 +4,12 @@ use Prim.Native.Nat.{ℕ, ◌-◌, ◌*◌, ◌≤◌, ◌<◌}
 use mathlib.Core.Bool.{true, false, cond, ◌||◌}
 use mathlib.Core.Path.{◌≡◌, refl, sym}
 use mathlib.Core.List.{List, [], ◌++◌, append-nil}
+use native.Mathlib.Nat.{sub-zero}
 use native.Mathlib.Omega.{arith}
 use borrow.Author.Tests.{leb-false}
 use lib.Dec.{leb}
 use lib.ListN.{length, take, set}
-use Rattle.time.proofs.Bools.{neither}
+use Rattle.std.proofs.lemmas.Bool.{or_parts}
 use Rattle.std.specs.Prelude.{Option}
 use Rattle.time.specs.declared.Time.{Time}
 use Rattle.grammar.specs.declared.Line.{Line}
@@ -53,10 +54,10 @@ none_due (Look t l) e = cc
 none_due (Wrong f) e = cc
 
 pub has-room : (l : Line) (k : ℕ) → (is_due l || leb room k) ≡ false → k < room
-has-room l k e = leb-false room k (neither (is_due l) (leb room k) e).1
+has-room l k e = leb-false room k (or_parts (is_due l) (leb room k) e).1
 
 pub not-due : (l : Line) (k : ℕ) → (is_due l || leb room k) ≡ false → due_of l ≡ Nothing
-not-due l k e = none_due l (neither (is_due l) (leb room k) e).0
+not-due l k e = none_due l (or_parts (is_due l) (leb room k) e).0
 
 pub ruleset places = (no_call, has-room, not-due)
 
@@ -81,14 +82,11 @@ module _ (p : Place) (line calls numbers : List ℕ) (r : Reading p) where
       record {
         reader_is = λ w d.
             rw (a.before_is, a.lines_are, a.line_empty, a.line_short, a.calls_wait, a.none_run, a.due_is, r.none_due, r.none_run)
-            (rw (minus k, minus p.waiting, wait, called-append, done, ← after, ← is));
+            (rw (sub-zero k, sub-zero p.waiting, wait, called-append, done, ← after, ← is));
         at_is = a.at_is;
         line_empty = a.line_empty;
         none_run = a.none_run;
       }
-    where
-      minus : (i : ℕ) → i - 0 ≡ i
-      minus i = omega arith
 
   -- a line that is too long leaves those that waited
   pub unread : {p' : Place} → p.line.long ≡ true → PlacedAfter p p.before n p.waiting (Wrong too_long) p' → LineTaken line p calls numbers p' calls numbers

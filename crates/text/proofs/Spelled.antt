@@ -4,24 +4,12 @@ use mathlib.Core.Path.{◌≡◌, refl}
 use mathlib.Core.Bool.{Bool, true, false, not, ◌&&◌, ◌||◌}
 use mathlib.Core.List.{[], ◌∷◌, ◌++◌}
 use Prim.Native.Nat.{ℕ, zero, suc, ◌-◌, ◌/◌, ◌%◌, ◌≤◌, ◌<◌}
-use native.Mathlib.Nat.{mod-lt}
 use native.Mathlib.Numerals.{sub-one}
 use native.Mathlib.Omega.{arith}
 use native.Mathlib.Decide.{dec_le}
 use borrow.Author.Tests.{le-leb, lt-leb, lt-ltb, le-ltb}
-use lib.Dec.{ltb, leb, lit<, lit≤}
+use lib.Dec.{ltb, leb}
 use Rattle.text.specs.Text.{base, digit, digits}
-
-pub base_more : (hex : Bool) → 0 < base hex
-base_more true = lit< tt
-base_more false = lit< tt
-
-base-most : (hex : Bool) → base hex ≤ 16
-base-most true = lit≤ tt
-base-most false = lit≤ tt
-
-pub digit-small : (hex : Bool) (n b : ℕ) → b ≡ base hex → n % b < 16
-digit-small hex n b e = rw e (omega (arith, mod-lt n (base_more hex), base-most hex))
 
 pub digits-none : (padded : Bool) (b k n : ℕ) → k ≤ 0 → digits padded b k n ≡ []
 unfolding digits

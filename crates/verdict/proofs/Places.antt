@@ -12,6 +12,7 @@ use lib.Dec.{leb, ltb}
 use Rattle.std.specs.Prelude.{Option, None, Some, IfSome}
 use Rattle.std.specs.Option.{option_map}
 use Rattle.std.specs.List.{find, range_with_len}
+use Rattle.std.proofs.lemmas.Iterator.Adapters.{option_map_id}
 use Rattle.control.specs.declared.Range.{Range}
 use Rattle.control.specs.Blocks.{covers, erase_range, InOrder}
 use Rattle.control.proofs.Tiling.{blocks-in-order}
@@ -40,12 +41,8 @@ from-range r p e = by (leb r.first p) (ltb p (r.first + r.pages)) refl refl e
 pub block-first : (p : ℕ) (r : Option ℕ) → option_map (λ x. x) r ≡ find (λ b. covers (block_range b) p) (range_with_len 0 6)
     → r ≡ block_of p
 unfolding block_of block_from
-block-first p r e = same r ∙ e ∙ go 6 0
+block-first p r e = sym (option_map_id r) ∙ e ∙ go 6 0
   where
-    same : (r : Option ℕ) → r ≡ option_map (λ x. x) r
-    same None = refl
-    same (Some x) = refl
-
     go : (n b : ℕ) → find (λ b. covers (block_range b) p) (range_with_len b n) ≡ block_from n b p
     go zero b = refl
     go (suc n) b = rw (add-one, go n (suc b))

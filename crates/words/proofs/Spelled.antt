@@ -1,5 +1,6 @@
 -- Whether bytes spell a name, byte beside byte: a name of another length is never spelled. Assumes nothing.
-use Rattle.std.proofs.Common.{◌≡◌, ◌≢◌, ℕ, suc, Bool, true, false, ◌&&◌, List, [], ◌∷◌, length, refl, ap, eqb, arith}
+use Rattle.std.proofs.Common.{◌≡◌, ◌≢◌, ℕ, suc, false, ◌&&◌, List, [], ◌∷◌, length, refl, ap, eqb, arith}
+use mathlib.Core.Bool.{and-false}
 use Rattle.std.specs.Char.{to_ascii_uppercase}
 use Rattle.std.specs.List.{list_all, zip}
 use Rattle.words.specs.Text.{spells}
@@ -10,12 +11,8 @@ beside [] (b ∷ bs) e = absurd (omega arith)
 beside (n ∷ ns) [] e = absurd (omega arith)
 beside (n ∷ ns) (b ∷ bs) e = ap (λ r. eqb (to_ascii_uppercase b) n && r) (beside ns bs (omega arith))
 
-and_no : (b : Bool) → (b && false) ≡ false
-and_no true = refl
-and_no false = refl
-
 pub other_length : (name word : List ℕ) → length word ≢ length name → spells name word ≡ false
 other_length [] [] differ = absurd (differ refl)
 other_length [] (b ∷ bs) differ = refl
 other_length (n ∷ ns) [] differ = refl
-other_length (n ∷ ns) (b ∷ bs) differ = rw (other_length ns bs (λ e. differ (ap suc e)), and_no)
+other_length (n ∷ ns) (b ∷ bs) differ = rw (other_length ns bs (λ e. differ (ap suc e)), and-false)
