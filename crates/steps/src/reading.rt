@@ -49,7 +49,8 @@ pub fn read_lines(place: Place, piece: &[u8], backlog: &mut Backlog) -> Place
 #[tactic(auto, using(crate::proofs::Lines::lines))]
 pub fn close(place: Place, backlog: &mut Backlog) -> Place
     requires { place.running ≡ false }
-    ensures { Closes place backlog.old result backlog.new }
+    ensures same_line { backlog.new.line ≡ backlog.old.line }
+    ensures closes { Closes place backlog.old result backlog.new }
 {
     if backlog.line[..place.line.length].is_empty() {
         to_run(place)
