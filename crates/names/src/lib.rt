@@ -34,59 +34,65 @@ pub enum NoBits {
 pub fn call_named(word: &[u8]) -> Option<Kind>
     ensures { result ≡ call_named word.now }
 {
-    let calls = [
-        ("WRITE", Kind::Write),
-        ("DATA", Kind::Data),
-        ("READ", Kind::Read),
-        ("WORD", Kind::Word),
-        ("PROTECT", Kind::Protect),
-        ("RESET", Kind::Reset),
-        ("POWER-OFF", Kind::PowerOff),
-        ("ENVIRONMENT", Kind::Environment),
-        ("LOOK", Kind::Look),
-    ];
-    named(word, &calls)
+    named(
+        word,
+        &[
+            (b"WRITE", Kind::Write),
+            (b"DATA", Kind::Data),
+            (b"READ", Kind::Read),
+            (b"WORD", Kind::Word),
+            (b"PROTECT", Kind::Protect),
+            (b"RESET", Kind::Reset),
+            (b"POWER-OFF", Kind::PowerOff),
+            (b"ENVIRONMENT", Kind::Environment),
+            (b"LOOK", Kind::Look),
+        ],
+    )
 }
 
 // A register's address.
 pub fn register_named(word: &[u8]) -> Option<u16>
     ensures { result ≡ register_named word.now }
 {
-    let registers = [
-        ("FLMCR1", FLMCR1),
-        ("FLMCR2", FLMCR2),
-        ("FLPWCR", FLPWCR),
-        ("EBR1", EBR1),
-        ("FENR", FENR),
-    ];
-    named(word, &registers)
+    named(
+        word,
+        &[
+            (b"FLMCR1", FLMCR1),
+            (b"FLMCR2", FLMCR2),
+            (b"FLPWCR", FLPWCR),
+            (b"EBR1", EBR1),
+            (b"FENR", FENR),
+        ],
+    )
 }
 
 // A mode's number, since a request takes its mode as a number.
 pub fn mode_named(word: &[u8]) -> Option<u8>
     ensures { result ≡ named modes word.now }
 {
-    let modes = [
-        ("ACTIVE", 0),
-        ("SUBACTIVE", 1),
-        ("SLEEP", 2),
-        ("SUBSLEEP", 3),
-        ("WATCH", 4),
-        ("STANDBY", 5),
-    ];
-    named(word, &modes)
+    named(
+        word,
+        &[
+            (b"ACTIVE", 0),
+            (b"SUBACTIVE", 1),
+            (b"SLEEP", 2),
+            (b"SUBSLEEP", 3),
+            (b"WATCH", 4),
+            (b"STANDBY", 5),
+        ],
+    )
 }
 
 // Whether the module has its supply.
 pub fn module_named(word: &[u8]) -> Option<bool>
     ensures { result ≡ named modules word.now }
 {
-    named(word, &[("NO-MODULE", false), ("MODULE", true)])
+    named(word, &[(b"NO-MODULE", false), (b"MODULE", true)])
 }
 
 // Whether the oscillator runs.
 pub fn oscillator_named(word: &[u8]) -> Option<bool>
     ensures { result ≡ named oscillators word.now }
 {
-    named(word, &[("NO-OSCILLATOR", false), ("OSCILLATOR", true)])
+    named(word, &[(b"NO-OSCILLATOR", false), (b"OSCILLATOR", true)])
 }

@@ -1,6 +1,6 @@
 // What is taken from the arguments, word by word.
 ghost use Rattle.std.specs.Prelude.{◌≡◌};
-ghost use Rattle.options.specs.Arguments.{parameter_named, wants_word, taken, dashed, plain, option, optional, valued, step_at};
+ghost use Rattle.options.specs.Arguments.{parameter_named, wants_word, reached, taken, dashed, plain, option, optional, valued, step_at};
 ghost use Rattle.options.specs.Inside.{AllTaken};
 
 use crate::places::{PLACES, is_given};
@@ -13,27 +13,37 @@ use words::spelling::named;
 fn parameter_named(word: &[u8]) -> Parameter
     ensures { result ≡ parameter_named word.now }
 {
-    let names = [
-        ("--HELP", Parameter::Help),
-        ("--EVENTS", Parameter::Events),
-        ("--MAP", Parameter::Map),
-        ("--GO-ON", Parameter::GoOn),
-        ("--IMAGE", Parameter::Image),
-        ("--RESTORE", Parameter::Restore),
-        ("--PICTURE", Parameter::Picture),
-        ("--SNAPSHOT", Parameter::Snapshot),
-        ("--BLOCK", Parameter::Block),
-        ("--FROM", Parameter::From),
-        ("--TO", Parameter::To),
-        ("--AT", Parameter::At),
-    ];
-    named(word, &names).unwrap_or(Parameter::History)
+    named(
+        word,
+        &[
+            (b"--HELP", Parameter::Help),
+            (b"--EVENTS", Parameter::Events),
+            (b"--MAP", Parameter::Map),
+            (b"--GO-ON", Parameter::GoOn),
+            (b"--IMAGE", Parameter::Image),
+            (b"--RESTORE", Parameter::Restore),
+            (b"--PICTURE", Parameter::Picture),
+            (b"--SNAPSHOT", Parameter::Snapshot),
+            (b"--BLOCK", Parameter::Block),
+            (b"--FROM", Parameter::From),
+            (b"--TO", Parameter::To),
+            (b"--AT", Parameter::At),
+        ],
+    )
+    .unwrap_or(Parameter::History)
 }
 
 fn dashed(word: &[u8]) -> bool
     ensures { result ≡ dashed word.now }
 {
     word.first() == Some(&b'-')
+}
+
+// The reading has come to a stage, and nothing more is given.
+fn reached<'a>(said: Said<'a>, stage: Stage<'a>) -> Given<'a>
+    ensures { result ≡ reached said.entry stage.entry }
+{
+    Given { said, stage }
 }
 
 #[tactic(auto, using(crate::proofs::Words::place_within))]
@@ -53,16 +63,10 @@ fn plain<'a>(said: Said<'a>, word: &'a [u8]) -> Given<'a>
     ensures { result ≡ plain said.entry word.entry }
 {
     if dashed(word) {
-        return Given {
-            said,
-            stage: Stage::Wrong(Trouble::NoSuchOption(word)),
-        };
+        return reached(said, Stage::Wrong(Trouble::NoSuchOption(word)));
     }
     if is_given(said, Parameter::History) {
-        return Given {
-            said,
-            stage: Stage::Wrong(Trouble::TwoHistories(word)),
-        };
+        return reached(said, Stage::Wrong(Trouble::TwoHistories(word)));
     }
     taken(said, Parameter::History, word)
 }
@@ -82,16 +86,10 @@ fn option<'a>(said: Said<'a>, p: Parameter, word: &'a [u8]) -> Given<'a>
     ensures { result ≡ option said.entry p word.entry }
 {
     if is_given(said, p) {
-        return Given {
-            said,
-            stage: Stage::Wrong(Trouble::Twice(word)),
-        };
+        return reached(said, Stage::Wrong(Trouble::Twice(word)));
     }
     if wants_word(p) {
-        return Given {
-            said,
-            stage: Stage::Wants(p, word),
-        };
+        return reached(said, Stage::Wants(p, word));
     }
     taken(said, p, word)
 }
@@ -101,10 +99,7 @@ fn optional<'a>(said: Said<'a>, p: Parameter, word: &'a [u8]) -> Given<'a>
     ensures { result ≡ optional said.entry p word.entry }
 {
     match p {
-        Parameter::Help => Given {
-            said,
-            stage: Stage::Helped,
-        },
+        Parameter::Help => reached(said, Stage::Helped),
         Parameter::History => plain(said, word),
         _ => option(said, p, word),
     }
@@ -117,10 +112,7 @@ fn valued<'a>(said: Said<'a>, p: Parameter, word: &'a [u8]) -> Given<'a>
     if fits(p, word) {
         return taken(said, p, word);
     }
-    Given {
-        said,
-        stage: Stage::Wrong(complaint(p, word)),
-    }
+    reached(said, Stage::Wrong(complaint(p, word)))
 }
 
 #[tactic(auto, unfolding(crate::specs::Arguments::step_at))]

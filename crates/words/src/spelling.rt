@@ -22,11 +22,11 @@ fn beside(word: &[u8], name: &[u8]) -> bool
 }
 
 // What the first entry of a table means whose name a word spells.
-pub fn named<A: Copy>(word: &[u8], table: &[(&str, A)]) -> Option<A>
+pub fn named<A: Copy>(word: &[u8], table: &[(&[u8], A)]) -> Option<A>
     ensures { result ≡ named (map (λ e. (e.0.now, e.1)) table.now) word.now }
 {
     table
         .iter()
-        .find(|(name, _)| spells(word, name.as_bytes()))
+        .find(|(name, _)| spells(word, name))
         .map(|(_, meaning)| *meaning)
 }
