@@ -1,7 +1,7 @@
 -- No report is longer than 9,214 bytes, so a slice of that many holds every one whole. A template filled is no longer than its bytes with
 -- each number at all of its places and each word at its length, and so many lines are no longer than so many times the longest.
 -- Assumes nothing.
-use Rattle.std.specs.Prelude.{Ok}
+use Rattle.std.specs.Prelude.{Option, None, Some, Ok}
 use mathlib.Core.Path.{◌≡◌}
 use mathlib.Core.Bool.{Bool, true, false, cond, not, ◌&&◌, ◌||◌}
 use mathlib.Core.List.{List, [], ◌∷◌}
@@ -24,7 +24,7 @@ use Rattle.verdict.specs.Legible.{legible}
 use Rattle.verdict.specs.declared.Counts.{Counts}
 use Rattle.summary.specs.declared.Judged.{Judged}
 use Rattle.summary.specs.Summary.{lines, left_out_line, pulses_in, counts_text, pages_in, page_legible, pages_text, map_row, map_text, lies, address_line, only_line, legible_among, judged_text, summary_text}
-use Rattle.summary.specs.Reported.{marks_at, report_text, Reports}
+use Rattle.summary.specs.Reported.{marks_for, report_text, Reports}
 
 -- ---- templates
 
@@ -96,10 +96,10 @@ row-most marks r =
     let f = filled-most (bytes "$ @\n") (take 32 (drop (r * 32) marks)) (r * 32 * 128 ∷ []) in
     omega (arith, length-take 32 (drop (r * 32) marks))
 
-map-most : (map : Bool) (marks : List ℕ) → length (map_text map marks) ≤ 509
+map-most : (marks : Option (List ℕ)) → length (map_text marks) ≤ 509
 unfolding map_text weight most
-map-most false marks = omega arith
-map-most true marks =
+map-most None = omega arith
+map-most (Some marks) =
     let head = filled-most (bytes "map: . blank, + reads FF with charge left, # legible\n") [] [] in
     let rows = lines-most (map_row marks) 38 (row-most marks) 12 0 in
     rw length-append (omega arith)
@@ -120,12 +120,12 @@ judged-most image j =
     let verdict = verdict-most (legible_among image j) in
     rw length-append (omega arith)
 
-summary-most : (c : Counts) (image : List ℕ) (map : Bool) (marks : List ℕ) (j : Judged) → length (summary_text c image map marks j) ≤ 9214
+summary-most : (c : Counts) (image : List ℕ) (marks : Option (List ℕ)) (j : Judged) → length (summary_text c image marks j) ≤ 9214
 unfolding summary_text
-summary-most c image map marks j =
+summary-most c image marks j =
     let a = counts-most c in
     let b = pages-most image in
-    let d = map-most map marks in
+    let d = map-most marks in
     let e = judged-most image j in
     rw (length-append, length-append, length-append) (omega arith)
 
@@ -139,7 +139,7 @@ module _ (c : Counts) (j : Judged) (map : Bool) (t : Time) (k : Chip) where
   -- every report fits into 9,214 bytes
   pub report-most : length (report_text c j map t k) ≤ 9214
   unfolding report_text
-  report-most = summary-most c (image_at t k) map (marks_at t k) j
+  report-most = summary-most c (image_at t k) (marks_for map t k) j
 
   -- so up to where it ends in a slice of that many stands the report and nothing else
   pub report-whole : (refusal : ℕ) (out left : List ℕ) (end : ℕ) → Reports refusal (report_text c j map t k) out left (Ok end)

@@ -4,7 +4,7 @@ use mathlib.Core.Path.{◌≡◌, sym, ◌∙◌}
 use mathlib.Core.Bool.{Bool, false}
 use mathlib.Core.List.{List}
 use Prim.Native.Nat.{ℕ}
-use Rattle.std.specs.Prelude.{Ok}
+use Rattle.std.specs.Prelude.{Option, Ok}
 use native.Mathlib.Omega.{arith}
 use lib.ListN.{length, replicate, length-replicate}
 use lib.Seq.{ext_get_or}
@@ -23,8 +23,8 @@ use Rattle.picture.proofs.Written.{length-written, written_at}
 use Rattle.verdict.proofs.Images.{image-refusal, image-seen}
 use Rattle.verdict.specs.declared.Counts.{Counts}
 use Rattle.summary.specs.declared.Judged.{Judged}
-use Rattle.summary.specs.Summary.{map_text, summary_text}
-use Rattle.summary.specs.Reported.{Shows, marks_at, report_text, Reports}
+use Rattle.summary.specs.Summary.{summary_text}
+use Rattle.summary.specs.Reported.{Shows, marks_at, marks_for, report_text, Reports}
 
 -- an output of which every byte is written
 all-written : (g : ℕ → ℕ) (n : ℕ) (out : List ℕ) → length out ≡ n → written g n out ≡ tabulate g n
@@ -53,16 +53,16 @@ module _ (t : Time) (m : Memory) where
 
   -- ---- the report
 
-  text-shown : (c : Counts) (image : List ℕ) (map : Bool) (marks : List ℕ) (j : Judged) → image ≡ image_at t (chip_in m)
-      → map_text map marks ≡ map_text map (marks_at t (chip_in m)) → summary_text c image map marks j ≡ report_text c j map t (chip_in m)
-  unfolding summary_text report_text
+  text-shown : (c : Counts) (image : List ℕ) (map : Bool) (marks : Option (List ℕ)) (j : Judged) → image ≡ image_at t (chip_in m)
+      → marks ≡ marks_for map t (chip_in m) → summary_text c image marks j ≡ report_text c j map t (chip_in m)
+  unfolding report_text
   text-shown c image map marks j e d = rw (e, d)
 
   -- of looks that are not refused, from what they showed
-  pub reports-shown : (c : Counts) (j : Judged) (map : Bool) (image marks out left : List ℕ) (end : ℕ)
+  pub reports-shown : (c : Counts) (j : Judged) (map : Bool) (image : List ℕ) (marks : Option (List ℕ)) (out left : List ℕ) (end : ℕ)
       → Shows (look_refusal false t m) (image_at t (chip_in m)) 0 image
-      → map_text map marks ≡ map_text map (marks_at t (chip_in m))
-      → Puts (summary_text c image map marks j) 0 out left end
+      → marks ≡ marks_for map t (chip_in m)
+      → Puts (summary_text c image marks j) 0 out left end
       → Reports (look_refusal false t m) (report_text c j map t (chip_in m)) out left (Ok end)
   reports-shown c j map image marks out left end seen marked p =
       let z = sym seen.number_is in

@@ -1,6 +1,6 @@
 -- The report on lent memory at a time: the look's refusal, or the text of what the look shows.
 -- Assumes nothing.
-use Rattle.std.specs.Prelude.{ℕ, ◌≡◌, Bool, List, Result, Ok, Err}
+use Rattle.std.specs.Prelude.{ℕ, ◌≡◌, Bool, cond, List, Option, None, Some, Result, Ok, Err}
 use Rattle.refusal.specs.declared.Refusal.{Refusal}
 use Rattle.refusal.specs.Refusal.{number}
 use Rattle.time.specs.declared.Time.{Time}
@@ -22,9 +22,13 @@ pub record Shows (refusal : ℕ) (answer : List ℕ) (number : ℕ) (left : List
 unfoldable pub marks_at : Time → Chip → List ℕ
 marks_at t k = tabulate (mark_at t k) pages
 
+-- the same where the map is asked for
+abbrev pub marks_for : Bool → Time → Chip → Option (List ℕ)
+marks_for map t k = cond map (Some (marks_at t k)) None
+
 -- the report on a chip at a time
 unfoldable pub report_text : Counts → Judged → Bool → Time → Chip → List ℕ
-report_text c j map t k = summary_text c (image_at t k) map (marks_at t k) j
+report_text c j map t k = summary_text c (image_at t k) (marks_for map t k) j
 
 -- What a report leaves: the text, from the slice's start up to the place that is given back; on the look's refusal the slice as it was.
 abbrev pub Reports : ℕ → List ℕ → List ℕ → List ℕ → Result ℕ Refusal → Type 0

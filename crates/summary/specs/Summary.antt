@@ -1,6 +1,6 @@
--- The text of a report, from what was counted, the image and the map's marks: its parts in the order in which they are printed.
+-- The text of a report, from what was counted, the image and the map's marks, if any: its parts in the order in which they are printed.
 -- Assumes nothing.
-use Rattle.std.specs.Prelude.{ℕ, zero, suc, ◌+◌, ◌-◌, ◌*◌, ◌<◌, Bool, cond, not, ◌||◌, List, [], ◌∷◌, ◌++◌, eqb, leb, take, drop}
+use Rattle.std.specs.Prelude.{ℕ, zero, suc, ◌+◌, ◌-◌, ◌*◌, ◌<◌, Bool, cond, not, ◌||◌, List, [], ◌∷◌, ◌++◌, eqb, leb, take, drop, Option, None, Some}
 use Rattle.std.specs.Borrow.{MutBor}
 use Rattle.cell.specs.Cell.{page_bytes, pages, at}
 use Rattle.text.specs.declared.Text.{Text}
@@ -65,9 +65,10 @@ row_pages = 32
 abbrev pub map_row : List ℕ → ℕ → List ℕ
 map_row marks r = filled (bytes "$ @\n") (take row_pages (drop (r * row_pages) marks)) (r * row_pages * page_bytes ∷ [])
 
--- the head and the rows, if the map is asked for
-unfoldable pub map_text : Bool → List ℕ → List ℕ
-map_text map marks = cond map (said "map: . blank, + reads FF with charge left, # legible\n" [] ++ lines (map_row marks) 0 map_rows) []
+-- the head and the rows, where there are marks
+unfoldable pub map_text : Option (List ℕ) → List ℕ
+map_text None = []
+map_text (Some marks) = said "map: . blank, + reads FF with charge left, # legible\n" [] ++ lines (map_row marks) 0 map_rows
 
 -- ---- what is judged
 
@@ -92,5 +93,5 @@ judged_text image j = only_line j ++ verdict_line (legible_among image j)
 
 -- ---- all of it
 
-unfoldable pub summary_text : Counts → List ℕ → Bool → List ℕ → Judged → List ℕ
-summary_text c image map marks j = counts_text c ++ pages_text image ++ map_text map marks ++ judged_text image j
+unfoldable pub summary_text : Counts → List ℕ → Option (List ℕ) → Judged → List ℕ
+summary_text c image marks j = counts_text c ++ pages_text image ++ map_text marks ++ judged_text image j

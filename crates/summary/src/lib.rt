@@ -1,15 +1,15 @@
 // The report of a run, put together in a lent slice. What does not fit is cut off at the slice's end, so no function asks for room.
 #![tactic(auto)]
 
-ghost use Rattle.std.specs.Prelude.{◌≡◌, false, MatchResult};
+ghost use Rattle.std.specs.Prelude.{◌≡◌, false, MatchResult, option_copied};
 ghost use Rattle.refusal.specs.Refusal.{number, told};
 ghost use Rattle.flash.specs.Looking.{image_at};
 ghost use Rattle.lent.specs.Memory.{chip_in};
 ghost use Rattle.lent.specs.Looked.{look_refusal};
 ghost use Rattle.lent.specs.Views.{memory_in};
 ghost use Rattle.text.specs.Says.{Says};
-ghost use Rattle.summary.specs.Summary.{map_text, summary_text};
-ghost use Rattle.summary.specs.Reported.{Shows, marks_at, report_text, Reports};
+ghost use Rattle.summary.specs.Summary.{summary_text};
+ghost use Rattle.summary.specs.Reported.{Shows, marks_for, report_text, Reports};
 
 use crate::counting::put_counts;
 use crate::judging::put_judged;
@@ -38,20 +38,19 @@ pub struct Judged {
     pub pages: usize,
 }
 
-// The report from what was counted, the image and the map's marks.
+// The report from what was counted, the image, and the map's marks where the map is asked for.
 pub fn summary(
     text: &mut Text,
     counts: Counts,
     image: &[u8; FLASH_SIZE],
-    map: bool,
-    marks: &[u8; PAGES],
+    marks: Option<&[u8; PAGES]>,
     judged: Judged,
 )
-    ensures { Says (summary_text counts image.now map marks.now judged) text.old text.new }
+    ensures { Says (summary_text counts image.now (option_copied marks.entry) judged) text.old text.new }
 {
     put_counts(text, counts);
     put_pages(text, image);
-    put_map(text, map, marks);
+    put_map(text, marks);
     put_judged(text, image, judged);
 }
 
@@ -63,14 +62,15 @@ fn image_at(image: &mut [u8; FLASH_SIZE], lent: Lent, time: Time) -> Result<(), 
 }
 
 // The marks of all pages at a time, where the map is asked for.
-fn marks_for(map: bool, lent: Lent, time: Time) -> Result<[u8; PAGES], Refusal>
-    ensures { MatchResult result (λ marks. map_text map marks ≡ map_text map (marks_at time (chip_in (memory_in lent.entry)))) (λ refusal. number refusal ≡ look_refusal false time (memory_in lent.entry)) }
+fn marks_for(map: bool, lent: Lent, time: Time) -> Result<Option<[u8; PAGES]>, Refusal>
+    ensures { MatchResult result (λ marks. marks ≡ marks_for map time (chip_in (memory_in lent.entry))) (λ refusal. number refusal ≡ look_refusal false time (memory_in lent.entry)) }
 {
-    let mut marks = [0u8; PAGES];
-    if map {
-        see_marks(lent, time, &mut marks)?;
+    if !map {
+        return Ok(None);
     }
-    Ok(marks)
+    let mut marks = [0u8; PAGES];
+    see_marks(lent, time, &mut marks)?;
+    Ok(Some(marks))
 }
 
 // The report on lent memory at a time: where its text ends.
@@ -88,6 +88,6 @@ pub fn report(
     image_at(&mut image, lent, time)?;
     let marks = marks_for(map, lent, time)?;
     let mut text = Text::new(out);
-    summary(&mut text, counts, &image, map, &marks, judged);
+    summary(&mut text, counts, &image, marks.as_ref(), judged);
     Ok(text.at)
 }

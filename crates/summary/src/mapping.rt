@@ -1,5 +1,5 @@
 // The map of the pages: 12 rows of 32 marks, each with its first address.
-ghost use Rattle.std.specs.Prelude.{◌<◌};
+ghost use Rattle.std.specs.Prelude.{◌<◌, option_copied};
 ghost use Rattle.text.specs.Says.{Says};
 ghost use Rattle.summary.specs.Summary.{lines, map_rows, map_row, map_text};
 
@@ -26,12 +26,12 @@ fn put_rows(text: &mut Text, marks: &[u8; PAGES])
     put_lines(text, ROWS, |text, row| put_row(text, marks, row));
 }
 
-// The map, if it is asked for.
+// The map, where there are marks.
 #[tactic(auto, unfolding(crate::specs::Summary::map_text))]
-pub fn put_map(text: &mut Text, map: bool, marks: &[u8; PAGES])
-    ensures { Says (map_text map marks.now) text.old text.new }
+pub fn put_map(text: &mut Text, marks: Option<&[u8; PAGES]>)
+    ensures { Says (map_text (option_copied marks.entry)) text.old text.new }
 {
-    if map {
+    if let Some(marks) = marks {
         text.say(
             b"map: . blank, + reads FF with charge left, # legible\n",
             &[],

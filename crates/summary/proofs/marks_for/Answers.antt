@@ -2,7 +2,6 @@
 -- Assumes nothing.
 use mathlib.Core.Path.{refl, ◌∙◌}
 use Rattle.refusal.proofs.Outcomes.{passed-on}
-use Rattle.summary.specs.Summary.{map_text}
 use Rattle.summary.proofs.Shown.{marks-refusal, marks-shown}
 use Rattle.summary.proofs.marks_for.Goals as goal
 
@@ -10,11 +9,7 @@ pub returns-in_err-see_marks : goal.returns-in_err-see_marks
 returns-in_err-see_marks c =
     rw (passed-on _ c.from_residual.ensures.1) (c.in_err-see_marks.ensures.refused ∙ marks-refusal _ _ _ refl)
 
-pub returns-in_ok-see_marks : goal.returns-in_ok-see_marks
-returns-in_ok-see_marks c =
+pub returns : goal.returns
+returns c =
     let seen = c.in_ok-see_marks.ensures in
-    rw (marks-shown _ _ _ _ refl seen.left)
-
-pub returns-else-map : goal.returns-else-map
-unfolding map_text
-returns-else-map c = rw c.if-map.false
+    rw (marks-shown _ _ _ _ refl seen.left, c.if-not-map.false)

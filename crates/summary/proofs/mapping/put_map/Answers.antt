@@ -5,6 +5,6 @@ use Rattle.text.proofs.Joined.{says_append}
 use Rattle.summary.specs.Summary.{map_text}
 use Rattle.summary.proofs.mapping.put_map.Goals as goal
 
-pub returns-then-map : goal.returns-then-map
+pub returns-in-Some : goal.returns-in-Some
 unfolding map_text
-returns-then-map c = rw c.if-map.true (search (rules, says_append))
+returns-in-Some c = rw c.in-Some.is (search (rules, says_append))
