@@ -16,7 +16,7 @@ use Rattle.lent.proofs.Lines.{named-first}
 use Rattle.grammar.specs.declared.Looking.{Looking}
 use Rattle.grammar.specs.declared.Looking.TheVariants.{Whole, Byte, Cell}
 use Rattle.course.specs.Desk.{looked_refusal}
-use Rattle.course.specs.Claim.{Named}
+use Rattle.course.specs.Claim.{Complaining}
 
 some : {n k : ℕ} → n ≡ suc k → n ≢ 0
 some e z = absurd (omega (arith, sym e ∙ z))
@@ -47,5 +47,5 @@ looks Whole t m e = look-named _ t m (some e) ∙ e
 looks (Byte a) t m e = look-named _ t m (some e) ∙ e
 looks (Cell a bit) t m e = look-named _ t m (some e) ∙ e
 
-pub named : Named
-named = record { calls = calls; looks = looks }
+pub complaining : Complaining
+complaining = record { calls = calls; looks = looks }

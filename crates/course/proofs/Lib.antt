@@ -1,3 +1,3 @@
 pub mod Claimed
 pub mod Demanded
-pub mod Named
+pub mod Complaining

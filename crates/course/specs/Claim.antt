@@ -29,7 +29,7 @@ pub record Runs : Type 0 where
   pub stays : (w : Manner) (xs : List ℕ) (r : Reader) → r.desk.course.stopped ≡ true → (all_read w xs r).desk ≡ r.desk
 
 -- A number that is not 0 is that of the refusal which the complaint names.
-pub record Named : Type 0 where
+pub record Complaining : Type 0 where
   pub calls : (q : Request) (t : Time) (events : List ℕ) (m : Memory) {n : ℕ} → (outcome q t events m).number ≡ suc n
       → number (numbered (outcome q t events m).number) ≡ suc n
   pub looks : (l : Looking) (t : Time) (m : Memory) {n : ℕ} → looked_refusal l t m ≡ suc n → number (numbered (looked_refusal l t m)) ≡ suc n

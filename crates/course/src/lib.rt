@@ -4,7 +4,6 @@
 ghost use Rattle.std.specs.Prelude.{◌≡◌, ◌≤◌, ◌<◌, true, false, [], MatchOption};
 ghost use Rattle.grammar.specs.declared.Line.TheVariants.{Nothing};
 ghost use Rattle.history.specs.History.{calls_of};
-ghost use Rattle.verdict.specs.Pulses.{raised};
 ghost use Rattle.course.specs.Bounds.{longest, room};
 ghost use Rattle.course.specs.Course.{with_calls, complained, begun_at};
 
@@ -122,20 +121,14 @@ pub fn begun(last: Time) -> Course
     }
 }
 
-// Counts stay at the largest number, which no file reaches.
-pub fn more(n: u64, by: u64) -> u64
-    ensures { result ≡ raised n by }
-{
-    n.saturating_add(by)
-}
-
-// So many more calls were made, the last at a time; the tally is counted by the caller.
+// So many more calls were made, the last at a time; the tally is counted by the caller. Counts stay at the largest number, which no file
+// reaches.
 pub fn with_calls(course: Course, calls: u64, last: Time, tally: Tally) -> Course
     ensures { result ≡ with_calls calls last tally course }
 {
     Course {
         counts: Counts {
-            made: more(course.counts.made, calls),
+            made: course.counts.made.saturating_add(calls),
             tally,
             ..course.counts
         },
@@ -150,9 +143,9 @@ pub fn complained(course: Course, go_on: bool, complaint: Complaint) -> Noted
 {
     let mut after = course;
     match complaint {
-        Complaint::Refused(_, _) => after.counts.refused = more(course.counts.refused, 1),
+        Complaint::Refused(_, _) => after.counts.refused = course.counts.refused.saturating_add(1),
         Complaint::Unseen(_, _) | Complaint::Wrong(_, _) => {
-            after.counts.left_out = more(course.counts.left_out, 1)
+            after.counts.left_out = course.counts.left_out.saturating_add(1)
         }
     }
     after.stopped = !go_on;

@@ -6,7 +6,7 @@ ghost use Rattle.course.specs.Bounds.{room};
 ghost use Rattle.taking.specs.Taking.{Reading, LineTaken, is_due, due_of, PlacedAfter};
 
 use course::memory::{Backlog, ROOM};
-use course::{LineSoFar, Place, more};
+use course::{LineSoFar, Place};
 use fields::Fault;
 use grammar::Line;
 use history::take;
@@ -56,7 +56,7 @@ pub fn take_line(place: Place, backlog: &mut Backlog) -> Place
     ensures taken { LineTaken backlog.old.line place backlog.old.calls backlog.old.numbers result backlog.new.calls backlog.new.numbers }
 {
     let before = place.before;
-    let lines = more(place.lines, 1);
+    let lines = place.lines.saturating_add(1);
     let waiting = place.waiting;
     if place.line.long {
         let wrong = Line::Wrong(Fault {
