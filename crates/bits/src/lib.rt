@@ -2,7 +2,7 @@
 #![tactic(auto)]
 
 ghost use Rattle.std.specs.Prelude.{◌≡◌, ◌<◌};
-ghost use Rattle.control.specs.Bits.{has, falls, flag, control_value, erase_after, erase_value, setup};
+ghost use Rattle.control.specs.Bits.{has, low, verifies, falls, flag, control_value, erase_after, erase_value, setup};
 
 use cell::Direction;
 
@@ -39,6 +39,20 @@ pub fn has(v: u8, d: u8) -> bool
     ensures { result ≡ has v d }
 {
     v / d % 2 == 1
+}
+
+// P, E, PV and EV: control's low four bits.
+pub fn low(v: u8) -> u8
+    ensures { result ≡ low v }
+{
+    v % 16
+}
+
+// Whether control is set to verify: PV alone or EV alone.
+pub fn verifies(v: u8) -> bool
+    ensures { result ≡ verifies v }
+{
+    (low(v) == PV) | (low(v) == EV)
 }
 
 // Whether the bit of value d is set in `old` and not in `new`.

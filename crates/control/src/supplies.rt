@@ -13,11 +13,7 @@ impl From<Supply> for u8 {
     ghost from_gives = { λ supply n. n ≡ supply_number supply };
 
     fn from(supply: Supply) -> u8 {
-        match supply {
-            Supply::Normal => 0,
-            Supply::Reduced => 1,
-            Supply::Stopped => 2,
-        }
+        supply as u8
     }
 }
 
@@ -25,14 +21,7 @@ impl From<Mode> for u8 {
     ghost from_gives = { λ mode n. n ≡ mode_number mode };
 
     fn from(mode: Mode) -> u8 {
-        match mode {
-            Mode::Active => 0,
-            Mode::Subactive => 1,
-            Mode::Sleep => 2,
-            Mode::Subsleep => 3,
-            Mode::Watch => 4,
-            Mode::Standby => 5,
-        }
+        mode as u8
     }
 }
 

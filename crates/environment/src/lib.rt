@@ -5,10 +5,9 @@
 ghost use Rattle.std.specs.Prelude.{◌≡◌};
 ghost use Rattle.registers.specs.Environment.{cleared, reset, power_off, unchanged, clears, environment_set, environment};
 
-use cell::PAGE;
 use control::supplies::supply_in;
 use control::{Mode, Supply};
-use registers::Registers;
+use registers::{BLANK_LATCH, Registers};
 use time::Time;
 use time::accepted::Accepted;
 use waits::{ESU_RISE, PSU_RISE, SUPPLY_CHANGE, SWE_RISE, renewed};
@@ -33,7 +32,7 @@ pub fn reset(registers: Registers, now: Time) -> Registers
     let mut r = cleared(registers.settled(now));
     r.enabled = false;
     r.power_down_disabled = false;
-    r.latch = [0xffu8; PAGE];
+    r.latch = BLANK_LATCH;
     r.page = 0;
     r.recovery = now;
     r

@@ -8,6 +8,9 @@ use cell::PAGES;
 use registers::Registers;
 use time::Time;
 
+// What is sensed in a fresh array and after a reset.
+pub const BLANK_SENSED: [u8; 4] = [0xFF; 4];
+
 // The state but for what is lent. An entry of `indices` is 0 for a page without charges, and slot + 1 for a page with some.
 #[derive(Clone, Copy)]
 pub struct Flash {

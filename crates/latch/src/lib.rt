@@ -4,7 +4,7 @@
 ghost use Rattle.std.specs.Prelude.{◌≡◌};
 ghost use Rattle.registers.specs.Latch.{takes_data, latched, sense_pending, data_taken, data_write, write8};
 
-use bits::{EV, PV, SWE, has};
+use bits::{SWE, has, low, verifies};
 use cell::PAGE_BYTES;
 use control::{PendingSense, Supply};
 use registers::Registers;
@@ -55,11 +55,10 @@ fn sense_pending(registers: Registers, address: u16, now: Accepted) -> Registers
 fn data_taken(registers: Registers, address: u16, value: u8, now: Accepted) -> Registers
     ensures { result ≡ data_taken address value now.time registers }
 {
-    let low = registers.control % 16;
-    if (low == 0) & now.time.reached(registers.recovery) {
+    if (low(registers.control) == 0) & now.time.reached(registers.recovery) {
         return latched(registers, address, value);
     }
-    if (low == PV) | (low == EV) {
+    if verifies(registers.control) {
         return sense_pending(registers, address, now);
     }
     registers

@@ -7,7 +7,7 @@ ghost use Rattle.lent.specs.Looked.{new_refusal, new_record, new_array};
 use crate::checking::sizes_misfit;
 use cell::{FLASH_SIZE, PAGES};
 use coding::write;
-use flash::Flash;
+use flash::{BLANK_SENSED, Flash};
 use refusal::Refusal;
 use registers::Registers;
 use time::Time;
@@ -19,7 +19,7 @@ fn fresh() -> Flash
     Flash {
         registers: Registers::new(),
         pulse_since: Time(0, 0),
-        sensed: [0xFF; 4],
+        sensed: BLANK_SENSED,
         indices: [0u16; PAGES],
     }
 }

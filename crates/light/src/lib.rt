@@ -8,7 +8,7 @@ ghost use Rattle.listing.specs.Held.{Onward};
 ghost use Rattle.light.specs.Writes.{lit, may_pulse, opens, is_light, since_after};
 
 use crate::writing::{settings_of, with_settings, write};
-use bits::{E, ESU, FENR, P, PSU, SWE, has};
+use bits::{E, ESU, FENR, P, PSU, SWE, has, low};
 use control::Supply;
 use flash::Flash;
 use listing::{KIND, NUMBERS, first_in, second_in};
@@ -47,7 +47,7 @@ fn may_pulse(registers: Registers) -> bool
 fn opens(may: bool, control: u8) -> bool
     ensures { result ≡ opens may control }
 {
-    let low = control % 16;
+    let low = low(control);
     let program = (low == P) & has(control, PSU);
     let erase = (low == E) & has(control, ESU);
     may & has(control, SWE) & (program | erase)

@@ -11,21 +11,7 @@ impl From<Parameter> for usize {
     ghost from_gives = { λ p n. n ≡ place p };
 
     fn from(p: Parameter) -> usize {
-        match p {
-            Parameter::Help => 0,
-            Parameter::Events => 1,
-            Parameter::Map => 2,
-            Parameter::GoOn => 3,
-            Parameter::Image => 4,
-            Parameter::Restore => 5,
-            Parameter::Picture => 6,
-            Parameter::Snapshot => 7,
-            Parameter::Block => 8,
-            Parameter::From => 9,
-            Parameter::To => 10,
-            Parameter::At => 11,
-            Parameter::History => 12,
-        }
+        p as usize
     }
 }
 

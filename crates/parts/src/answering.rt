@@ -5,7 +5,7 @@ ghost use Rattle.cell.specs.Cell.{array_bytes};
 ghost use Rattle.registers.specs.Calls.{settles};
 ghost use Rattle.flash.specs.Chip.{placed, verified, unserved, settled_answer, stored_answer, answer_limit};
 
-use bits::{EV, PV};
+use bits::verifies;
 use control::Supply;
 use permit::{serve_byte, serve_word};
 use registers::{Call, Pulse, Registers};
@@ -16,9 +16,7 @@ use time::Time;
 fn verified(address: u16, time: Time, registers: Registers, sensed: [u8; 4]) -> u8
     ensures { result ≡ verified address time registers sensed }
 {
-    let low = registers.control % 16;
-    let verifies = (low == PV) | (low == EV);
-    if verifies & (registers.supply != Supply::Stopped) & time.reached(registers.ready) {
+    if verifies(registers.control) & (registers.supply != Supply::Stopped) & time.reached(registers.ready) {
         return sensed[usize::from(address % 4)];
     }
     0xFF
@@ -54,9 +52,9 @@ pub fn settled_answer(
     match call {
         Call::Read8(a) => u16::from(unserved(a, time, pulse, registers, sensed)),
         Call::Read16(a) => {
-            let high = u16::from(unserved(a, time, pulse, registers, sensed));
-            let low = u16::from(unserved(a + 1, time, pulse, registers, sensed));
-            256 * high + low
+            let high = unserved(a, time, pulse, registers, sensed);
+            let low = unserved(a + 1, time, pulse, registers, sensed);
+            u16::from_be_bytes([high, low])
         }
         _ => 0,
     }

@@ -8,7 +8,7 @@ ghost use Rattle.settle.specs.Settling.{range_bytes};
 ghost use Rattle.flash.specs.Chip.{placed, sensed_after, Fit, Performed};
 
 use calling::{next, settles};
-use flash::{Answer, Flash};
+use flash::{Answer, BLANK_SENSED, Flash};
 use parts::answering::{settled_answer, stored_answer};
 use parts::ending::end_pulse;
 use parts::verifying::sense;
@@ -30,7 +30,7 @@ fn sensed_after(call: Call, sensed: [u8; 4]) -> [u8; 4]
     ensures { result ≡ sensed_after call sensed }
 {
     match call {
-        Call::Reset | Call::PowerOff => [0xFF; 4],
+        Call::Reset | Call::PowerOff => BLANK_SENSED,
         _ => sensed,
     }
 }

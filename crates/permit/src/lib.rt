@@ -28,11 +28,8 @@ pub fn normal_read<'a>(registers: Registers, time: Time, array: &'a [u8]) -> Nor
 pub fn permit_at<'a>(registers: Registers, time: Time, array: &'a [u8]) -> Option<NormalRead<'a>>
     ensures { MatchOption result (normal time registers ≡ false) (λ permit. (normal time registers ≡ true) × (shown permit ≡ array.entry)) }
 {
-    if registers.normal(time) {
-        Some(normal_read(registers, time, array))
-    } else {
-        None
-    }
+    let normal = registers.normal(time);
+    normal.then(|| normal_read(registers, time, array))
 }
 
 // Here and below an address lies in the array that is lent, which is a fact of the two together.
@@ -48,7 +45,7 @@ fn word_at(array: &[u8], address: usize) -> u16
     requires { suc address < length array.now }
     ensures { result ≡ 256 * at array.now address + at array.now (suc address) }
 {
-    256 * u16::from(array[address]) + u16::from(array[address + 1])
+    u16::from_be_bytes([array[address], array[address + 1]])
 }
 
 pub fn read_byte<'a>(permit: NormalRead<'a>, address: usize) -> u8

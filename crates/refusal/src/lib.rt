@@ -7,46 +7,33 @@ ghost use Rattle.refusal.specs.Refusal.{number, told};
 #[derive(Clone, Copy, Debug, PartialEq, Eq)]
 pub enum Refusal {
     // The firmware of a new array has not its length.
-    Firmware,
+    Firmware = 1,
     // Lent memory has not its lengths.
-    Memory,
+    Memory = 2,
     // The record is one that no state is written as, or that is not allowed.
-    Record,
+    Record = 3,
     // An address, a bit or a mode is past the last one.
-    Place,
+    Place = 4,
     // The time is in the last second of all.
-    LastSecond,
+    LastSecond = 5,
     // The time is before the last settling.
-    TooEarly,
+    TooEarly = 6,
     // There is too little room for event words.
-    Events,
+    Events = 7,
     // The output is too short.
-    Output,
+    Output = 8,
     // A snapshot ends early, has a field that is none, has bytes left over, or holds a state that is not valid.
-    EndsEarly,
-    Field,
-    LeftOver,
-    Invalid,
+    EndsEarly = 9,
+    Field = 10,
+    LeftOver = 11,
+    Invalid = 12,
 }
 
 impl From<Refusal> for u32 {
     ghost from_gives = { λ r n. n ≡ number r };
 
     fn from(refusal: Refusal) -> u32 {
-        match refusal {
-            Refusal::Firmware => 1,
-            Refusal::Memory => 2,
-            Refusal::Record => 3,
-            Refusal::Place => 4,
-            Refusal::LastSecond => 5,
-            Refusal::TooEarly => 6,
-            Refusal::Events => 7,
-            Refusal::Output => 8,
-            Refusal::EndsEarly => 9,
-            Refusal::Field => 10,
-            Refusal::LeftOver => 11,
-            Refusal::Invalid => 12,
-        }
+        refusal as u32
     }
 }
 

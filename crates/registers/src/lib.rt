@@ -13,6 +13,9 @@ use control::verify::sense_due;
 use control::{Mode, PendingSense, Supply};
 use time::Time;
 
+// The latch of a fresh array and after a reset.
+pub const BLANK_LATCH: [u8; PAGE] = [0xff; PAGE];
+
 #[derive(Clone, Copy)]
 pub struct Registers {
     pub control: u8,
@@ -47,7 +50,7 @@ impl Registers {
             erase: 0,
             enabled: false,
             power_down_disabled: false,
-            latch: [0xffu8; PAGE],
+            latch: BLANK_LATCH,
             page: 0,
             supply: Supply::Normal,
             oscillator: true,

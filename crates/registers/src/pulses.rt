@@ -3,7 +3,7 @@ ghost use Rattle.std.specs.Prelude.{◌≡◌};
 ghost use Rattle.registers.specs.Pulses.{ready_for, program_pulse, erase_pulse, powered, pulse, normal, tripped, protect, read8, read16};
 
 use crate::{Pulse, Registers};
-use bits::{E, ESU, P, PSU, SWE, has};
+use bits::{E, ESU, P, PSU, SWE, has, low};
 use cell::{Direction, PAGE_BYTES};
 use control::Supply;
 use control::blocks::erase_range;
@@ -56,7 +56,7 @@ impl Registers {
         ensures { result ≡ pulse self }
     {
         let control = self.control;
-        let low = control % 16;
+        let low = low(control);
         if self.powered() {
             if (low == P) & has(control, PSU) {
                 return Some(self.program_pulse());
@@ -84,17 +84,11 @@ impl Registers {
     pub fn tripped(self, pulse: Option<Pulse>, now: Accepted) -> Registers
         ensures { result ≡ tripped pulse now.time self }
     {
-        match pulse {
-            None => self,
-            Some(p) => {
-                let direction = p.direction;
-                let recovery = self.recovery.max(now.after(trip_wait(direction)));
-                let mut r = self;
-                r.error = true;
-                r.recovery = recovery;
-                r
-            }
-        }
+        pulse.map_or(self, |p| Registers {
+            error: true,
+            recovery: self.recovery.max(now.after(trip_wait(p.direction))),
+            ..self
+        })
     }
 
     #[tactic(auto, unfolding(crate::specs::Pulses::protect))]

@@ -85,13 +85,8 @@ impl Ceilings {
     pub fn of(sense: Sense) -> Ceilings
         ensures { result.sense ≡ sense }
     {
-        let table = classes();
         let by_class = row(sense);
-        let mut limits = [0u64; 256];
-        for i in 0..256 {
-            let c = usize::from(table[i] % 16);
-            limits[i] = by_class[c];
-        }
+        let limits = classes().map(|class| by_class[usize::from(class % 16)]);
         Ceilings { sense, limits }
     }
 
@@ -128,8 +123,8 @@ impl Ceilings {
         ensures { out.new ≡ sensed_page self.now.sense address cells.now out.old }
     {
         let (bytes, _) = cells.as_chunks::<8>();
-        for i in 0..PAGE {
-            out[i] = self.sense_byte(address + i, &bytes[i]);
+        for (i, byte) in out.iter_mut().enumerate() {
+            *byte = self.sense_byte(address + i, &bytes[i]);
         }
     }
 }

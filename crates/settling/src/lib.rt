@@ -22,20 +22,16 @@ use time::Time;
 // What an event word tells: a byte that changed, or how a pulse ended.
 #[derive(Clone, Copy, Debug, PartialEq, Eq)]
 pub enum EventKind {
-    Byte,
-    Completed,
-    Interrupted,
+    Byte = 1,
+    Completed = 2,
+    Interrupted = 3,
 }
 
 impl From<EventKind> for u64 {
     ghost from_gives = { λ kind n. n ≡ kind_number kind };
 
     fn from(kind: EventKind) -> u64 {
-        match kind {
-            EventKind::Byte => 1,
-            EventKind::Completed => 2,
-            EventKind::Interrupted => 3,
-        }
+        kind as u64
     }
 }
 

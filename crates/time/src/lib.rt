@@ -51,7 +51,7 @@ impl Time {
     {
         let (low, carry) = self.1.carrying_add(d.1, false);
         let (high, over) = self.0.carrying_add(d.0, carry);
-        if over { None } else { Some(Time(high, low)) }
+        (!over).then_some(Time(high, low))
     }
 
     // This instant as an accepted time: none in the last second.

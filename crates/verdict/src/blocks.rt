@@ -8,15 +8,12 @@ use control::blocks::erase_range;
 
 pub const BLOCKS: usize = 6;
 
-// The erase register's value that selects each block.
-const ERASE: [u8; BLOCKS] = [1, 2, 4, 8, 16, 32];
-
-// The pages of a block.
+// The pages of a block, which its bit of the erase register selects.
 pub fn block_range(block: usize) -> Range
     requires { block < blocks }
     ensures { result ≡ block_range block }
 {
-    erase_range(ERASE[block])
+    erase_range(1 << block)
 }
 
 // The block that a page lies in, none for a page past the array.
