@@ -46,10 +46,9 @@ impl View<'_> {
         ensures some { IfSome result (λ found. (self.now.exposure ≡ Some found.now) × (covers found.now.pulse page ≡ true)) }
         ensures none { IfNone result (IfSome self.now.exposure (λ other. covers other.pulse page ≡ false)) }
     {
-        match &self.exposure {
-            Some(exposure) if exposure.covers(page) => Some(exposure),
-            _ => None,
-        }
+        self.exposure
+            .as_ref()
+            .filter(|exposure| exposure.covers(page))
     }
 
     // The charge of the cell i.
