@@ -53,6 +53,7 @@ fn some_path(path: Option<&[u8]>) -> Option<&[u8]> {
     path.filter(|path| !path.is_empty())
 }
 
+// What a run begins with: an image or a snapshot with an empty path is none, and the flash is empty.
 fn some_beginning(begins: Beginning<'_>) -> Beginning<'_> {
     match begins {
         Beginning::Image(path) | Beginning::Snapshot(path) if path.is_empty() => Beginning::Empty,
@@ -92,7 +93,7 @@ fn serve<R: Files + Print + Eprint, S: Print>(
         events: &mut memory.events,
         out: &mut memory.buffer,
     };
-    let after = read_history(outlets, options.history, manner, course, &mut bench).ok_or(Told)?;
+    let after = read_history(outlets, options.history, manner, course, &mut bench)?;
     finish(outlets, options, after, memory)
 }
 

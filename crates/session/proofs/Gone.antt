@@ -9,7 +9,7 @@ use lib.ListN.{length, take}
 use Rattle.std.proofs.lemmas.Bool.{true_from_ne_false}
 use Rattle.lent.specs.Memory.{Memory}
 use Rattle.grammar.specs.declared.Line.TheVariants as line
-use Rattle.std.specs.Prelude.{Option, None, Some, IfSome, option_to_list}
+use Rattle.std.specs.Prelude.{Result, Ok, Err, IfOk, option_to_list}
 use Rattle.course.specs.declared.Complaint.{Complaint}
 use Rattle.course.specs.declared.Course.{Course}
 use Rattle.course.specs.declared.Manner.{Manner}
@@ -175,10 +175,10 @@ read_whole w c first r b b' m m' events events' s g on more reading =
     record { text = g.bytes; said = g.said; complaints = g.complaints; not_stopped = on; desk_is = ap (λ (x : Reader). x.desk) read ∙ rw end }
 
 -- and so where the course is given only then
-pub read_if_whole : (after : Option Course) (w : Manner) (c : Course) (first r : Run) (b b' : Backlog) (m m' : Memory) (events events' : List ℕ)
+pub read_if_whole : {E : Type 0} (after : Result Course E) (w : Manner) (c : Course) (first r : Run) (b b' : Backlog) (m m' : Memory) (events events' : List ℕ)
     → Begins c first → Goes w first.more r.more (reader_in w first b m events) (reader_in w r b' m' events')
-    → IfSome after (λ x. (x ≡ r.course) × (r.course.stopped ≡ false) × (r.more ≡ false) × (r.place.running ≡ false))
-    → IfSome after (λ x. ReadWhole w (desk c m events) x m' events')
-read_if_whole None w c first r b b' m m' events events' s g h = tt
-read_if_whole (Some x) w c first r b b' m m' events events' s g h =
+    → IfOk after (λ x. (x ≡ r.course) × (r.course.stopped ≡ false) × (r.more ≡ false) × (r.place.running ≡ false))
+    → IfOk after (λ x. ReadWhole w (desk c m events) x m' events')
+read_if_whole (Err why) w c first r b b' m m' events events' s g h = tt
+read_if_whole (Ok x) w c first r b b' m m' events events' s g h =
     rw h.0 (read_whole w c first r b b' m m' events events' s g h.1 h.2 h.3)

@@ -1,7 +1,7 @@
 // The history's file is read in pieces and run step by step, so memory does not grow with it. What each step said is written at once.
 #![tactic(auto)]
 
-ghost use Rattle.std.specs.Prelude.{◌≡◌, false, IfSome};
+ghost use Rattle.std.specs.Prelude.{◌≡◌, false, IfOk};
 ghost use Rattle.lent.specs.Views.{memory_at};
 ghost use Rattle.course.specs.Views.{desk_on, SameBench};
 ghost use Rattle.session.specs.Going.{Begins, ReadWhole};
@@ -13,9 +13,9 @@ use course::{Course, LineSoFar, Manner, Place};
 use grammar::Line;
 use std::io;
 use std::rt::Files;
-use telling::Outlets;
 use telling::reading::open;
 use telling::saying::say_not_opened;
+use telling::{Outlets, Told};
 
 mod complaints;
 mod pieces;
@@ -54,15 +54,14 @@ fn beginning(course: Course) -> Run
     }
 }
 
-// The course, if the text was read up to its end and all was done.
-fn whole(run: Run) -> Option<Course>
-    ensures { IfSome result (λ after. (after ≡ run.course) × (run.course.stopped ≡ false) × (run.more ≡ false) × (run.place.running ≡ false)) }
+// The course, if the text was read up to its end and all was done. What ended a run before was told as it happened.
+fn whole(run: Run) -> Result<Course, Told>
+    ensures { IfOk result (λ after. (after ≡ run.course) × (run.course.stopped ≡ false) × (run.more ≡ false) × (run.place.running ≡ false)) }
 {
     if run.course.stopped | run.more | run.place.running | run.failed {
-        None
-    } else {
-        Some(run.course)
+        return Err(Told);
     }
+    Ok(run.course)
 }
 
 // Runs the open file's text on the flash in lent memory, and gives the course if the file was read whole.
@@ -73,9 +72,9 @@ fn read_file<R: Print + Eprint, F: io::Read, S: Print>(
     manner: Manner,
     course: Course,
     bench: &mut Bench,
-) -> Option<Course>
+) -> Result<Course, Told>
     ensures same { SameBench bench.old bench.new }
-    ensures whole { IfSome result (λ after. ReadWhole manner (desk_on course bench.old) after (memory_at bench.new.memory) bench.new.events.now) }
+    ensures whole { IfOk result (λ after. ReadWhole manner (desk_on course bench.old) after (memory_at bench.new.memory) bench.new.events.now) }
 {
     let mut backlog = Backlog {
         calls: [0; NUMBERS * ROOM],
@@ -104,15 +103,13 @@ pub fn read_history<R: Files + Print + Eprint, S: Print>(
     manner: Manner,
     course: Course,
     bench: &mut Bench,
-) -> Option<Course>
+) -> Result<Course, Told>
     ensures same { SameBench bench.old bench.new }
-    ensures whole { IfSome result (λ after. ReadWhole manner (desk_on course bench.old) after (memory_at bench.new.memory) bench.new.events.now) }
+    ensures whole { IfOk result (λ after. ReadWhole manner (desk_on course bench.old) after (memory_at bench.new.memory) bench.new.events.now) }
 {
-    match open(outlets.rt, path) {
-        Some(mut file) => read_file(outlets, &mut file, path, manner, course, bench),
-        None => {
-            say_not_opened(outlets.says, path);
-            None
-        }
-    }
+    let Some(mut file) = open(outlets.rt, path) else {
+        say_not_opened(outlets.says, path);
+        return Err(Told);
+    };
+    read_file(outlets, &mut file, path, manner, course, bench)
 }
