@@ -11,7 +11,6 @@ use fields::Fault;
 use grammar::Line;
 use refusal::Refusal;
 use time::Time;
-use verdict::blocks::BLOCKS;
 use verdict::{Counts, Tally};
 
 pub mod memory;
@@ -107,15 +106,7 @@ pub fn begun(last: Time) -> Course
     ensures { result ≡ begun_at last }
 {
     Course {
-        counts: Counts {
-            made: 0,
-            refused: 0,
-            left_out: 0,
-            tally: Tally {
-                completed: [0; BLOCKS],
-                interrupted: [0; BLOCKS],
-            },
-        },
+        counts: Counts::default(),
         last,
         stopped: false,
     }

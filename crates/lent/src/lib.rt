@@ -10,8 +10,8 @@ pub mod opening;
 ghost use Rattle.std.specs.Prelude.{◌≡◌};
 ghost use Rattle.lent.specs.Asked.{call_of};
 
-// What a call that is not refused answers.
 use coding::state::mode_of;
+// What a call that is not refused answers.
 pub use flash::Answer;
 use registers::Call;
 use time::Time;

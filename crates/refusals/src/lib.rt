@@ -45,7 +45,7 @@ fn ended(text: &mut Text, why: Refusal)
 pub fn refusal(text: &mut Text, line_number: u64, why: Refusal)
     ensures { SaysSome text.old text.new }
 {
-    let numbers = [line_number, u64::from(u32::from(why))];
+    let numbers = [line_number, why as u64];
     text.say(b"line %: the call is refused, %: ", &numbers);
     ended(text, why);
 }
@@ -54,7 +54,7 @@ pub fn refusal(text: &mut Text, line_number: u64, why: Refusal)
 pub fn no_snapshot(text: &mut Text, word: &[u8], why: Refusal)
     ensures { SaysSome text.old text.new }
 {
-    let numbers = [u64::from(u32::from(why))];
+    let numbers = [why as u64];
     text.fill(b"wipe: @ is no snapshot, refusal %: ", word, &numbers);
     ended(text, why);
 }
@@ -63,7 +63,7 @@ pub fn no_snapshot(text: &mut Text, word: &[u8], why: Refusal)
 pub fn look_refusal(text: &mut Text, line_number: u64, why: Refusal)
     ensures { SaysSome text.old text.new }
 {
-    let numbers = [line_number, u64::from(u32::from(why))];
+    let numbers = [line_number, why as u64];
     text.say(b"line %: the look is refused, %: ", &numbers);
     ended(text, why);
 }
@@ -72,7 +72,7 @@ pub fn look_refusal(text: &mut Text, line_number: u64, why: Refusal)
 pub fn unseen(text: &mut Text, why: Refusal)
     ensures { SaysSome text.old text.new }
 {
-    let numbers = [u64::from(u32::from(why))];
+    let numbers = [why as u64];
     text.say(
         b"wipe: the flash can't be looked at then, refused by %: ",
         &numbers,

@@ -80,10 +80,10 @@ pub fn flash_at(state: StateAt, indices: [u16; PAGES]) -> Flash
     let since = time_at(state.bytes, state.at + PULSE_SINCE);
     let sensed = row_at(state.bytes, state.end() - 4);
     Flash {
-        registers: registers,
+        registers,
         pulse_since: since,
-        sensed: sensed,
-        indices: indices,
+        sensed,
+        indices,
     }
 }
 

@@ -12,6 +12,7 @@ use lib.Dec.{leb, ltb}
 use Rattle.std.specs.Prelude.{Option, None, Some, IfSome}
 use Rattle.std.specs.Option.{option_map}
 use Rattle.std.specs.List.{find, range_with_len}
+use Rattle.std.proofs.lemmas.Bool.{and_parts}
 use Rattle.std.proofs.lemmas.Iterator.Adapters.{option_map_id}
 use Rattle.control.specs.declared.Range.{Range}
 use Rattle.control.specs.Blocks.{covers, erase_range, InOrder}
@@ -28,12 +29,7 @@ past-range r p h = rw (le-leb r.first p (omega arith), le-ltb p _ h)
 
 -- where p lies in a range
 from-range : (r : Range) (p : ℕ) → covers r p ≡ true → (r.first ≤ p) × (p < r.first + r.pages)
-from-range r p e = by (leb r.first p) (ltb p (r.first + r.pages)) refl refl e
-  where
-    by : (a b : Bool) → leb r.first p ≡ a → ltb p (r.first + r.pages) ≡ b → (a && b) ≡ true → (r.first ≤ p) × (p < r.first + r.pages)
-    by true true x y h = (leb-true _ p x, ltb-true p _ y)
-    by true false x y h = absurd (true≢false (sym h))
-    by false b x y h = absurd (true≢false (sym h))
+from-range r p e = let both = and_parts _ _ e in (leb-true _ p both.0, ltb-true p _ both.1)
 
 -- ---- the block of a page
 

@@ -8,14 +8,14 @@ pub mod legible;
 pub mod pulses;
 
 // How many pulses ended in each block: completed, and interrupted. A count stays at the largest number.
-#[derive(Clone, Copy)]
+#[derive(Clone, Copy, Default)]
 pub struct Tally {
     pub completed: [u64; BLOCKS],
     pub interrupted: [u64; BLOCKS],
 }
 
 // Calls made, calls refused, lines left out, and pulses by block.
-#[derive(Clone, Copy)]
+#[derive(Clone, Copy, Default)]
 pub struct Counts {
     pub made: u64,
     pub refused: u64,
