@@ -85,8 +85,13 @@ impl Ceilings {
     pub fn of(sense: Sense) -> Ceilings
         ensures { result.sense ≡ sense }
     {
+        let table = classes();
         let by_class = row(sense);
-        let limits = classes().map(|class| by_class[usize::from(class % 16)]);
+        let mut limits = [0u64; 256];
+        for i in 0..256 {
+            let c = usize::from(table[i] % 16);
+            limits[i] = by_class[c];
+        }
         Ceilings { sense, limits }
     }
 

@@ -2,7 +2,7 @@
 -- Assumes nothing.
 use Rattle.settle.proofs.Slots.{entry-le}
 use mathlib.Core.List.{[], append-nil}
-use mathlib.Core.Path.{◌≡◌, refl, ◌∙◌}
+use mathlib.Core.Path.{◌≡◌, refl, sym, ◌∙◌}
 use Prim.Native.Nat.{suc}
 use Rattle.cell.specs.Cell.{at}
 use lib.ListN.{length, length-set}
@@ -35,7 +35,7 @@ loop-i-preserved-then-entry-ne0 c =
     let place : c.in-Some.i ≡ length front = omega arith in
     let passed : Owned (suc (length front)) xs l.found = rw (last-place xs _ front _ f s.1.0) l.invariant.3 in
     let owned = slot-owned (length front) xs l.found (last-within xs _ front _ f s.1.0) passed (omega arith) (omega (arith, entry-le xs held.fit.index_long held.fit.slots (length front))) in
-    rw (c.from-entry.ensures, place) (simp length-set l.invariant.0, s.0 ∙ l.invariant.1, front-next xs _ front _ f s.1.0, rw there at owned)
+    rw place (simp length-set l.invariant.0, s.0 ∙ l.invariant.1, front-next xs _ front _ f s.1.0, rw (there ∙ sym c.from-entry.ensures) at owned)
 
 pub loop-i-preserved : goal.loop-i-preserved
 loop-i-preserved c =
