@@ -1,7 +1,7 @@
 // The lines of document 01's table of refusals, one test each.
 ghost use Rattle.std.specs.Prelude.{◌≡◌, IfOk};
 ghost use Rattle.refusal.specs.Refusal.{told};
-ghost use Rattle.lent.specs.Memory.{sizes_misfit, past_end, last_second, time_refusal, too_few_words};
+ghost use Rattle.lent.specs.Memory.{sizes_misfit, past_end, time_refusal, too_few_words};
 ghost use Rattle.lent.specs.Asked.{misplaced, call_refusal};
 
 use crate::{Asking, Request};
@@ -38,12 +38,6 @@ fn misplaced(request: Request) -> bool
         Request::Environment(mode, _, _) => LAST_MODE < mode,
         _ => false,
     }
-}
-
-pub fn last_second(time: Time) -> bool
-    ensures { result ≡ last_second time }
-{
-    u64::MAX <= time.0
 }
 
 fn too_few_words(pulse: Option<Pulse>, words: usize) -> bool

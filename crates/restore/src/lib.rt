@@ -13,7 +13,6 @@ ghost use Rattle.snapshot.specs.Places.{place_judged, place_read};
 use crate::loading::{flash_at, load_pages};
 use cell::FLASH_SIZE;
 use coding::write;
-use lent::checking::{last_second, sizes_misfit};
 use lent::memory::LentMut;
 use refusal::Refusal;
 use scan::scan;
@@ -48,15 +47,9 @@ pub fn read_snapshot(bytes: &[u8], memory: &mut LentMut, time: Time) -> Result<(
     ensures refused { told result ≡ read_refusal time bytes.entry.now (memory_at memory.old) }
     ensures left { Left (memory_read (told result) bytes.entry.now (memory_at memory.old)) memory.new.«record».now memory.new.array.now memory.new.charges.now }
 {
-    if sizes_misfit(
-        memory.record.len(),
-        memory.array.len(),
-        memory.charges.len(),
-    ) {
+    if memory.seen().misfits() {
         return Err(Refusal::Memory);
     }
-    if last_second(time) {
-        return Err(Refusal::LastSecond);
-    }
+    time.accepted().ok_or(Refusal::LastSecond)?;
     take(&scan(bytes)?, memory, time)
 }

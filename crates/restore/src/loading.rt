@@ -35,12 +35,10 @@ fn pending_at(state: StateAt) -> Option<PendingSense>
     ensures room { state.entry.at + 256 ≤ length state.entry.bytes.now }
 {
     let StateAt { bytes, at } = state;
-    if bytes[at + PENDING] == 1 {
-        let address = u16::get(bytes, at + PENDING_ADDRESS);
-        let ready = time_at(bytes, at + PENDING_INSTANT);
-        return Some(PendingSense { address, at: ready });
-    }
-    None
+    (bytes[at + PENDING] == 1).then(|| PendingSense {
+        address: u16::get(bytes, at + PENDING_ADDRESS),
+        at: time_at(bytes, at + PENDING_INSTANT),
+    })
 }
 
 #[tactic(auto, unfolding(snapshot::specs::Places::registers_at))]
