@@ -11,8 +11,8 @@ use crate::slots::slots_sound;
 use cell::{ARRAY_BYTES, PAGE_BYTES, PAGES};
 use control::supplies::{LAST_MODE, LAST_SUPPLY};
 use layout::{ADDRESSES, INDICES, PENDING_INSTANT, RECORD_LEN};
-use rows::row_at;
 use rows::numbers::Number;
+use rows::row_at;
 use time::Time;
 
 // The most that each single byte of a state can be: those of flags, of the supply, of the mode and of the option are few, the others may be any.

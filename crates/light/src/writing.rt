@@ -5,8 +5,8 @@ ghost use Rattle.light.specs.Writes.{settings_of, with_settings, Changed};
 
 use crate::Settings;
 use bits::{
-    EBR1, ESU, FENR, FLAG, FLMCR1, FLPWCR, PSU, SWE, control_value, erase_after, erase_value, falls,
-    has,
+    EBR1, ESU, FENR, FLAG, FLMCR1, FLPWCR, PSU, SWE, control_value, erase_after, erase_value,
+    falls, has,
 };
 use registers::Registers;
 use time::Time;

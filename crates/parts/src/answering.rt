@@ -16,7 +16,10 @@ use time::Time;
 fn verified(address: u16, time: Time, registers: Registers, sensed: [u8; 4]) -> u8
     ensures { result ≡ verified address time registers sensed }
 {
-    if verifies(registers.control) & (registers.supply != Supply::Stopped) & time.reached(registers.ready) {
+    if verifies(registers.control)
+        & (registers.supply != Supply::Stopped)
+        & time.reached(registers.ready)
+    {
         return sensed[usize::from(address % 4)];
     }
     0xFF

@@ -84,11 +84,14 @@ impl Registers {
     pub fn tripped(self, pulse: Option<Pulse>, now: Accepted) -> Registers
         ensures { result ≡ tripped pulse now.time self }
     {
-        pulse.map_or(self, |p| Registers {
-            error: true,
-            recovery: self.recovery.max(now.after(trip_wait(p.direction))),
-            ..self
-        })
+        pulse.map_or(
+            self,
+            |p| Registers {
+                error: true,
+                recovery: self.recovery.max(now.after(trip_wait(p.direction))),
+                ..self
+            },
+        )
     }
 
     #[tactic(auto, unfolding(crate::specs::Pulses::protect))]

@@ -10,8 +10,8 @@ use coding::state::{mode_of, supply_of};
 use control::PendingSense;
 use flash::Flash;
 use registers::Registers;
-use rows::{get_row, row_at};
 use rows::numbers::Number;
+use rows::{get_row, row_at};
 use scan::state::StateAt;
 use snapshot::{
     CHARGES, ENABLED, ERASE, ERASE_READY, ERROR, LATCH, LATCH_PAGE, MODE, MODULE, OSCILLATOR,

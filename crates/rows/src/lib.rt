@@ -15,11 +15,11 @@ pub fn row_at<N: Number, const L: usize>(from: &[u8], at: usize) -> [N; L]
     requires { at + N.WIDTH * L ≤ length from.now }
     ensures { N.numbers result ≡ row L N.WIDTH at from.now }
 {
-    from_fn(|k|
-        requires { at + N.WIDTH * (k + 1) ≤ length from.now }
-    {
-        N::get(from, at + N::WIDTH * k)
-    })
+    from_fn(
+        |k|
+            requires { at + N.WIDTH * (k + 1) ≤ length from.now }
+        { N::get(from, at + N::WIDTH * k) },
+    )
 }
 
 // The numbers of a row that begins at a place.
