@@ -8,7 +8,7 @@ ghost use Rattle.std.specs.List.{list_all, zip};
 ghost use Rattle.layout.specs.Layout.{head_known, nothing_clear, placed, legible, in_range, accepted, rows_in};
 
 use crate::slots::slots_sound;
-use cell::{ARRAY_BYTES, PAGE_BYTES, PAGES};
+use cell::{ARRAY_BYTES, PAGE_BYTES};
 use control::supplies::{LAST_MODE, LAST_SUPPLY};
 use layout::{ADDRESSES, INDICES, PENDING_INSTANT, RECORD_LEN};
 use rows::numbers::Number;

@@ -19,3 +19,8 @@ pub const LATCH: usize = 142;
 pub const SENSED: usize = 270;
 
 pub const INDICES: usize = 274;
+
+// Where the supplies and the option stand among the single bytes of a state, the first row.
+pub const HEAD_SUPPLIES: usize = 5;
+
+pub const HEAD_OPTION: usize = 9;

@@ -14,7 +14,7 @@ use Rattle.control.specs.Bits.{FENR, SWE, ESU, PSU, E, P, has, low}
 use Rattle.registers.proofs.Laws.{either-way}
 use Rattle.registers.specs.declared.Registers.{Registers}
 use Rattle.registers.specs.declared.Call.TheVariants as call
-use Rattle.registers.specs.Pulses.{program_pulse, erase_pulse, pulse}
+use Rattle.registers.specs.Pulses.{program_pulse, erase_pulse, may_pulse, pulse}
 use Rattle.registers.specs.Access.{write_register}
 use Rattle.registers.specs.Calls.{next, settles}
 use Rattle.settle.specs.Settling.{settled_by, sensed_by, ended, end_words}
@@ -24,7 +24,7 @@ use Rattle.flash.specs.Chip.{Chip, Performed, registers, step_if, step, answer}
 use Rattle.lent.specs.declared.Request.TheVariants.{WriteRegister}
 use Rattle.lent.specs.Memory.{last_second}
 use Rattle.lent.specs.Asked.{call_refusal}
-use Rattle.light.specs.Writes.{may_pulse, opens, is_light, since_after}
+use Rattle.light.specs.Writes.{opens, is_light, since_after}
 
 -- ---- tests
 

@@ -14,7 +14,8 @@ use Rattle.light.specs.declared.Settings.{Settings}
 use Rattle.listing.specs.Calls.{first_in, second_in, request_by, request_in}
 use Rattle.listing.specs.Replaying.{stops}
 use Rattle.listing.specs.Held.{chip, Ready, Called, Onward}
-use Rattle.light.specs.Writes.{Changed, lit, may_pulse, is_light, since_after}
+use Rattle.registers.specs.Pulses.{may_pulse}
+use Rattle.light.specs.Writes.{Changed, lit, is_light, since_after}
 use Rattle.listing.proofs.Holding.{call-done}
 use Rattle.light.proofs.Lights.{closed-pulse, Says, light-says, light-performed, light-accepted}
 use Rattle.listing.proofs.Steps.{step-on}

@@ -5,7 +5,6 @@ use Rattle.std.specs.Prelude.{ℕ, ◌^◌, ◌≡◌, Bool, cond, not, ◌&&◌
 use Rattle.time.specs.declared.Time.{Time}
 use Rattle.time.specs.Raw.{raw}
 use Rattle.control.specs.Bits.{FENR, SWE, ESU, PSU, E, P, has, low}
-use Rattle.control.specs.Supplies.{is_normal}
 use Rattle.registers.specs.declared.Registers.{Registers}
 use Rattle.flash.specs.declared.Flash.{Flash}
 use Rattle.lent.specs.Memory.{last_second}
@@ -31,9 +30,6 @@ lit f s since =
     record { registers = with_settings s f.registers; pulse_since = since; sensed = f.sensed; indices = f.indices }
 
 -- whether control opens a pulse, in registers that let it
-abbrev pub may_pulse : Registers → Bool
-may_pulse r = not r.error && r.oscillator && is_normal r.supply
-
 abbrev pub opens : Bool → ℕ → Bool
 opens may control =
     may && has control SWE && ((eqb (low control) P && has control PSU) || (eqb (low control) E && has control ESU))

@@ -5,11 +5,10 @@ pub mod writing;
 
 ghost use Rattle.std.specs.Prelude.{◌≡◌, cond, ◌*◌, ◌≤◌, length};
 ghost use Rattle.listing.specs.Held.{Onward};
-ghost use Rattle.light.specs.Writes.{lit, may_pulse, opens, is_light, since_after};
+ghost use Rattle.light.specs.Writes.{lit, opens, is_light, since_after};
 
 use crate::writing::{settings_of, with_settings, write};
 use bits::{E, ESU, FENR, P, PSU, SWE, has, low};
-use control::Supply;
 use flash::Flash;
 use listing::{KIND, NUMBERS, first_in, second_in};
 use registers::Registers;
@@ -35,13 +34,6 @@ pub struct Settings {
 pub struct Ahead {
     pub flash: Flash,
     pub done: usize,
-}
-
-// Whether control can open a pulse.
-fn may_pulse(registers: Registers) -> bool
-    ensures { result ≡ may_pulse registers }
-{
-    !registers.error & registers.oscillator & (registers.supply == Supply::Normal)
 }
 
 fn opens(may: bool, control: u8) -> bool
@@ -94,7 +86,7 @@ fn run_writes(flash: Flash, calls: &[u64], from: usize, end: usize) -> Ahead
     requires { (3 * end ≤ length calls.now) × (flash.registers.verify_pending ≡ None) }
     ensures { Onward end calls.now from flash result.done result.flash }
 {
-    let may = may_pulse(flash.registers);
+    let may = flash.registers.may_pulse();
     let mut settings = settings_of(flash.registers);
     let mut since = flash.pulse_since;
     for i in from..end {

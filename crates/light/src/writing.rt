@@ -9,7 +9,6 @@ use bits::{
     falls, has,
 };
 use registers::Registers;
-use time::Time;
 use time::accepted::Accepted;
 use waits::{ESU_RISE, PSU_RISE, SWE_RISE, recovery_after, renewed, verify_ready_after};
 

@@ -33,8 +33,11 @@ erase_pulse r =
 
 -- A pulse is open if no error, oscillator on, supply Normal, SWE set, and the low four bits are P alone with PSU (the latched
 -- page) or E alone with ESU.
+abbrev pub may_pulse : Registers → Bool
+may_pulse r = not r.error && r.oscillator && is_normal r.supply
+
 abbrev pub powered : Registers → Bool
-powered r = not r.error && r.oscillator && is_normal r.supply && has r.control SWE
+powered r = may_pulse r && has r.control SWE
 
 unfoldable pub pulse : Registers → Option Pulse
 pulse r =

@@ -1,6 +1,6 @@
 // The open pulse, normal reading, and protection.
 ghost use Rattle.std.specs.Prelude.{◌≡◌};
-ghost use Rattle.registers.specs.Pulses.{ready_for, program_pulse, erase_pulse, powered, pulse, normal, tripped, protect, read8, read16};
+ghost use Rattle.registers.specs.Pulses.{ready_for, program_pulse, erase_pulse, may_pulse, powered, pulse, normal, tripped, protect, read8, read16};
 
 use crate::{Pulse, Registers};
 use bits::{E, ESU, P, PSU, SWE, has, low};
@@ -44,10 +44,17 @@ impl Registers {
         }
     }
 
+    // Whether control can open a pulse.
+    pub fn may_pulse(self) -> bool
+        ensures { result ≡ may_pulse self }
+    {
+        !self.error & self.oscillator & (self.supply == Supply::Normal)
+    }
+
     fn powered(self) -> bool
         ensures { result ≡ powered self }
     {
-        !self.error & self.oscillator & (self.supply == Supply::Normal) & has(self.control, SWE)
+        self.may_pulse() & has(self.control, SWE)
     }
 
     // The open pulse.

@@ -16,9 +16,11 @@ ghost use Rattle.snapshot.specs.Asked.{write_refusal, written_out};
 ghost use Rattle.snapshot.specs.Places.{pages_place, page_at};
 
 use cell::{PAGE, PAGE_CELLS, PAGES};
+use coding::state::head_of;
 use control::PendingSense;
 use flash::Flash;
 use flash::held::Held;
+use layout::{HEAD_OPTION, HEAD_SUPPLIES};
 use lent::memory::Lent;
 use refusal::Refusal;
 use rows::numbers::Number;
@@ -57,20 +59,12 @@ fn put_pages(out: &mut [u8], held: &Held, count: usize)
 }
 
 // The runs of fields of the state, each after what stands before it.
-#[tactic(auto, using(crate::proofs::Runs::rows), unfolding(snapshot::specs::Snapshot::state_fields))]
+#[tactic(auto, using(crate::proofs::Runs::rows), unfolding(snapshot::specs::Snapshot::state_fields, layout::specs::Layout::head_of))]
 fn put_controls(out: &mut [u8], at: usize, flash: Flash)
     requires { at + 5 ≤ length out.old }
     ensures { take (at + 5) out.new ≡ take at out.old ++ controls.write (state_fields flash).0 }
 {
-    let r = flash.registers;
-    let run = [
-        r.control,
-        u8::from(r.error),
-        r.erase,
-        u8::from(r.enabled),
-        u8::from(r.power_down_disabled),
-    ];
-    put_row(out, at, &run);
+    put_row(out, at, &head_of(flash.registers)[..HEAD_SUPPLIES]);
 }
 
 fn put_latched(out: &mut [u8], at: usize, flash: Flash)
@@ -82,19 +76,16 @@ fn put_latched(out: &mut [u8], at: usize, flash: Flash)
     r.page.put(out, at + (LATCH_PAGE - LATCH));
 }
 
-#[tactic(auto, using(crate::proofs::Runs::rows), unfolding(snapshot::specs::Snapshot::state_fields))]
+#[tactic(auto, using(crate::proofs::Runs::rows), unfolding(snapshot::specs::Snapshot::state_fields, layout::specs::Layout::head_of))]
 fn put_supplies(out: &mut [u8], at: usize, flash: Flash)
     requires { at + 4 ≤ length out.old }
     ensures { take (at + 4) out.new ≡ take at out.old ++ supplies.write (state_fields flash).1.1.0 }
 {
-    let r = flash.registers;
-    let run = [
-        u8::from(r.supply),
-        u8::from(r.oscillator),
-        u8::from(r.mode),
-        u8::from(r.module),
-    ];
-    put_row(out, at, &run);
+    put_row(
+        out,
+        at,
+        &head_of(flash.registers)[HEAD_SUPPLIES..HEAD_OPTION],
+    );
 }
 
 #[tactic(auto, using(crate::proofs::Runs::rows), unfolding(snapshot::specs::Snapshot::state_fields))]

@@ -14,6 +14,7 @@ ghost use Rattle.snapshot.specs.Places.{pages_place, count_in, cells_number, add
 use crate::scanned::Scanned;
 use cell::{FULL, PAGE, PAGE_BYTES, PAGE_CELLS, PAGES};
 use checks::{LIMITS, placed};
+use layout::{HEAD_OPTION, HEAD_SUPPLIES};
 use refusal::Refusal;
 use rows::numbers::Number;
 use snapshot::{
@@ -160,11 +161,11 @@ fn check_state(bytes: &[u8], at: usize) -> Result<(), Refusal>
     requires { at < 2 ^ 31 }
     ensures { told result ≡ state_number bytes.now at }
 {
-    check_bytes(bytes, at, &LIMITS[..5])?;
+    check_bytes(bytes, at, &LIMITS[..HEAD_SUPPLIES])?;
     check_end(bytes, at + SUPPLY)?;
-    check_bytes(bytes, at + SUPPLY, &LIMITS[5..9])?;
+    check_bytes(bytes, at + SUPPLY, &LIMITS[HEAD_SUPPLIES..HEAD_OPTION])?;
     check_end(bytes, at + PENDING)?;
-    check_bytes(bytes, at + PENDING, &LIMITS[9..])?;
+    check_bytes(bytes, at + PENDING, &LIMITS[HEAD_OPTION..])?;
     check_end(bytes, at + state_length(bytes, at))
 }
 

@@ -1,5 +1,5 @@
 // Instants and lengths of time, in raw units of 2^-64 s. `u128` of the original is two 64-bit halves here:
-// whole seconds and a fraction. The record, snapshots and the host take the halves, so nothing here would have use of the whole number.
+// whole seconds and a fraction. The record and the host take the halves, so nothing here would have use of the whole number.
 #![tactic(auto)]
 
 pub mod accepted;

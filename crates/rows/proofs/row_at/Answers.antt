@@ -1,6 +1,6 @@
 -- `rows::row_at` meets its contract: each call gives the number whose bytes stand at its index.
 -- Assumes nothing.
-use Rattle.std.proofs.Common.{rules, ◌≡◌, ◌∙◌}
+use Rattle.std.proofs.Common.{rules, ◌∙◌}
 use Rattle.rows.proofs.Values.{made-row}
 use Rattle.rows.proofs.row_at.Goals as goal
 
