@@ -1,16 +1,17 @@
--- `charging::charge` meets its contract. The cells passed are moved by the clipped amount, and the others are as they were; at the end the
--- clipped amount is replaced by the exposure's, cell by cell.
+-- `charging::charge` meets its contract. The invariant of both loops: the cells passed are moved by the clipped amount, and the others are
+-- as they were; at the end the clipped amount is replaced by the exposure's, cell by cell.
 -- Assumes nothing.
-use Prim.Native.Nat.{ℕ, ◌<◌, ◌-◌, ◌*◌, ◌^◌, min}
+use Prim.Native.Nat.{ℕ, ◌+◌, ◌<◌, ◌-◌, ◌*◌, ◌^◌, min}
 use mathlib.Core.List.{List}
-use mathlib.Core.Path.{◌≡◌, ◌∙◌}
+use mathlib.Core.Path.{◌≡◌, sym, ◌∙◌}
+use native.Mathlib.Nat.{add-zero}
 use native.Mathlib.Omega.{arith}
-use lib.ListN.{length}
 use Rattle.time.specs.Raw.{span}
 use Rattle.cell.specs.Cell.{at, mapi, rate, page_bit, charged_page}
 use Rattle.cell.specs.declared.Direction.{Direction}
 use Rattle.cell.proofs.Maps.{mapi-same}
 use Rattle.cell.proofs.Partly.{partly-turn, partly-all}
+use Rattle.charging.proofs.Bytes.{cell-bit}
 use Rattle.cell.proofs.Rule.{clipped-exposes}
 use Rattle.charging.proofs.charge.Invariants.{ruled}
 use Rattle.charging.proofs.charge.Goals as goal
@@ -21,18 +22,29 @@ clipped-page :
 unfolding charged_page
 clipped-page d latch l a qs e h = mapi-same _ _ qs (λ k g. clipped-exposes d (page_bit latch k) l a (at qs k) e (h k))
 
-pub loop-j-preserved : goal.loop-j-preserved
-loop-j-preserved c =
-    let x = c.args in
-    let l = c.loop-j in
-    partly-turn (ruled x.direction x.latch.now c.amount-by.result) l.j _ l.cells _ l.invariant
-    (c.moved.ensures ∙ rw c.page_bit.ensures)
+pub loop-k-init : goal.loop-k-init
+loop-k-init c = λ xs e. rw add-zero e
+
+pub loop-k-preserved : goal.loop-k-preserved
+loop-k-preserved c =
+    let l = c.loop-k in
+    let i = c.loop-i.i in
+    let n : 8 * i + (l.k + 1) ≡ 8 * i + l.k + 1 = omega arith in
+    λ xs e.
+    rw n (partly-turn (ruled c.args.direction c.args.latch.now c.amount-by.result) (8 * i + l.k) xs l.cells _ (l.invariant xs e)
+    (c.moved.ensures ∙ rw (c.bit.ensures, cell-bit _ i l.k (omega arith))))
+
+pub loop-i-preserved : goal.loop-i-preserved
+loop-i-preserved c =
+    let e : 8 * (c.loop-i.i + 1) ≡ 8 * c.loop-i.i + c.loop-k.k = omega arith in
+    rw e (c.loop-k.invariant _ c.loop-i.invariant)
 
 pub returns : goal.returns
 returns c =
     let x = c.args in
-    let e : c.loop-j.j ≡ length x.cells.now = omega arith in
-    c.loop-j.invariant
-    ∙ partly-all _ _ _ e
+    let l = c.loop-i in
+    let e : 8 * l.i ≡ 1024 = omega arith in
+    l.invariant
+    ∙ partly-all _ _ _ (e ∙ sym c.requires)
     ∙ clipped-page x.direction x.latch.now (span x.lasting) _ x.cells.now c.amount-by.ensures
     (λ k. search arith)
