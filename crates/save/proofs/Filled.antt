@@ -5,7 +5,7 @@ use mathlib.Core.Path.{◌≡◌, refl, sym, ap, ◌∙◌}
 use mathlib.Core.Logic.{◌≢◌}
 use mathlib.Core.Bool.{true}
 use mathlib.Core.List.{List, [], ◌∷◌, ◌++◌, append_assoc, append-nil}
-use Prim.Native.Nat.{ℕ, zero, suc, ◌+◌, ◌-◌, ◌*◌, ◌≤◌, ◌<◌}
+use Prim.Native.Nat.{ℕ, zero, suc, ◌+◌, ◌*◌, ◌≤◌, ◌<◌}
 use native.Mathlib.Nat.{add-zero, zero-add, zero-mul}
 use native.Mathlib.Numerals.{add-one}
 use native.Mathlib.Omega.{arith}
@@ -71,11 +71,11 @@ module _ (i : ℕ) (xs found : List ℕ) (l : i < length xs) (p : Owned (suc i) 
           let m : q ≢ i = λ d. n (sym (rw d at k)) in
           rw (ne_eqb (suc s) (at xs i) n) (other s n ∙ p.owner s q (omega arith) k ∙ omega arith)
 
-  pub slot-owned : at xs i ≢ 0 → at xs i ≤ length found → Owned i xs (set found (at xs i - 1) (i * 128))
-  slot-owned n k =
-      one-owned (set found (at xs i - 1) (i * 128))
-      (λ s e. let d : s ≡ at xs i - 1 = omega arith in rw d (get_or-set_same found (at xs i - 1) (i * 128) 0 (omega arith)))
-      (λ s m. get_or-set_other found (at xs i - 1) s (i * 128) 0 (λ d. m (omega arith)))
+  pub slot-owned : (s : ℕ) → at xs i ≡ suc s → s < length found → Owned i xs (set found s (i * 128))
+  slot-owned s e k =
+      one-owned (set found s (i * 128))
+      (λ t d. let o : t ≡ s = omega arith in rw o (get_or-set_same found s (i * 128) 0 k))
+      (λ t m. get_or-set_other found s t (i * 128) 0 (λ d. m (omega arith)))
 
   pub closed-owned : at xs i ≡ 0 → Owned i xs found
   closed-owned e = one-owned found (λ s d. absurd (omega arith)) (λ s m. refl)

@@ -25,7 +25,7 @@ use lent::memory::Lent;
 use refusal::Refusal;
 use rows::numbers::Number;
 use rows::put_row;
-use settle::pages::opened;
+use settle::pages::{opened, slot_in};
 use snapshot::{
     CHARGES, COUNT, FIRST_PAGE, LATCH, LATCH_PAGE, PAGE_LEN, PENDING, READY, SENSE_ADDRESS,
     SENSE_END, SENSE_INSTANT, SENSE_LEN, STATE_LEN, SUPPLY, page_at,
@@ -37,9 +37,8 @@ fn owners(held: &Held) -> [u16; PAGES]
 {
     let mut found = [0u16; PAGES];
     for (i, entry) in held.flash.indices.iter().enumerate().rev() {
-        let entry = usize::from(*entry);
-        if entry != 0 {
-            found[entry - 1] = (i * PAGE) as u16;
+        if let Some(slot) = slot_in(*entry) {
+            found[slot] = (i * PAGE) as u16;
         }
     }
     found

@@ -17,6 +17,7 @@ use checks::{LIMITS, placed};
 use layout::{HEAD_OPTION, HEAD_SUPPLIES};
 use refusal::Refusal;
 use rows::numbers::Number;
+use settle::pages::{entry_of, slot_in};
 use snapshot::{
     CHARGE_LEN, CHARGES, COUNT, FIRST_PAGE, PENDING, SENSE_LEN, STATE_LEN, SUPPLY, page_at,
 };
@@ -87,7 +88,7 @@ fn check_address(bytes: &[u8], at: usize, indices: &[u16; PAGES]) -> Result<(), 
     if !placed(address, PAGE_BYTES) {
         return Err(Refusal::Field);
     }
-    if indices[usize::from(address) / PAGE] != 0 {
+    if slot_in(indices[usize::from(address) / PAGE]).is_some() {
         return Err(Refusal::Field);
     }
     Ok(())
@@ -100,7 +101,7 @@ fn enter_page(indices: &mut [u16; PAGES], slot: usize, bytes: &[u8], at: usize)
     ensures { indices.new ≡ with_page indices.old slot bytes.now at }
 {
     let page = usize::from(u16::get(bytes, at)) / PAGE;
-    indices[page] = (slot + 1) as u16;
+    indices[page] = entry_of(slot);
 }
 
 // The charge pages. Reading stops at the first quarter of a page that has a bad cell.

@@ -3,6 +3,7 @@ ghost use Rattle.std.specs.Prelude.{◌≡◌, true, length};
 ghost use Rattle.cell.specs.Cell.{array_bytes, array_cells, pages};
 ghost use Rattle.settle.specs.Pages.{slots_sound};
 
+use crate::pages::slot_in;
 use cell::PAGE_CELLS;
 use charging::{bit, first_charge};
 use std::array::from_fn;
@@ -30,11 +31,10 @@ impl CellsRef<'_> {
         requires { i < array_cells }
         ensures { result ≡ cell_at (cells_in self.now) i }
     {
-        let entry = usize::from(self.index[i / PAGE_CELLS]);
-        if entry == 0 {
-            return first_charge(bit(self.array[i / 8], i % 8));
+        match slot_in(self.index[i / PAGE_CELLS]) {
+            None => first_charge(bit(self.array[i / 8], i % 8)),
+            Some(slot) => self.charges[slot * PAGE_CELLS + i % PAGE_CELLS],
         }
-        self.charges[(entry - 1) * PAGE_CELLS + i % PAGE_CELLS]
     }
 
     // The charges of the eight cells of the byte at an address.

@@ -1,5 +1,5 @@
 // Pages and slots: where a cell's charge stands, and which slot a page takes.
-ghost use Rattle.std.specs.Prelude.{◌≡◌, true, ◌<◌, ◌≤◌, length};
+ghost use Rattle.std.specs.Prelude.{◌≡◌, true, suc, ◌<◌, ◌≤◌, length, MatchOption};
 ghost use Rattle.time.specs.Raw.{span};
 ghost use Rattle.cell.specs.Cell.{pages};
 ghost use Rattle.settle.specs.Pages.{opened, slot_for, on_page, slots_sound};
@@ -26,6 +26,21 @@ pub fn opened(indices: &[u16]) -> usize
     usize::from(n)
 }
 
+// The slot that an entry of the page index tells, and none of a page without charges.
+pub fn slot_in(entry: u16) -> Option<usize>
+    ensures { MatchOption result (entry ≡ 0) (λ slot. entry ≡ suc slot) }
+{
+    usize::from(entry).checked_sub(1)
+}
+
+// The entry of a page that has a slot.
+pub fn entry_of(slot: usize) -> u16
+    requires { slot < pages }
+    ensures { result ≡ suc slot }
+{
+    (slot + 1) as u16
+}
+
 // A page takes its slot, the next one if it has none, and its cells are charged there. The answer is the slot.
 // Index, array and charges apart: the array is only read, and a CellsMut would ask for it to be lent to be changed.
 pub fn charge_page(
@@ -44,14 +59,13 @@ pub fn charge_page(
     ensures slot { result ≡ slot_for index.old page }
 {
     let direction = pulse.direction;
-    let entry = usize::from(index[page]);
-    if entry == 0 {
+    let Some(slot) = slot_in(index[page]) else {
         let (stored, _) = array.as_chunks::<PAGE>();
         open_slot(charges, next, &stored[page]);
-        index[page] = (next + 1) as u16;
+        index[page] = entry_of(next);
         charge_slot(charges, next, latch, direction, lasting);
         return next;
-    }
-    charge_slot(charges, entry - 1, latch, direction, lasting);
-    entry - 1
+    };
+    charge_slot(charges, slot, latch, direction, lasting);
+    slot
 }

@@ -2,7 +2,7 @@
 -- Assumes nothing.
 use Rattle.settle.proofs.Slots.{entry-le}
 use mathlib.Core.List.{[], append-nil}
-use mathlib.Core.Path.{◌≡◌, refl, sym, ◌∙◌}
+use mathlib.Core.Path.{◌≡◌, refl, ◌∙◌}
 use Prim.Native.Nat.{suc}
 use Rattle.cell.specs.Cell.{at}
 use lib.ListN.{length, length-set}
@@ -16,26 +16,26 @@ loop-i-init c =
     rw (c.into_iter-i-iterator.ensures.into_iter_gives, c.rev-i-items.ensures.source, c.enumerate.ensures.source, c.iter.ensures.rest)
     (refl, c.enumerate.ensures.count, ([], append-nil xs), none_owned (length xs) xs _ refl)
 
-pub bounds-found-entry : goal.bounds-found-entry
-bounds-found-entry c =
+pub bounds-found-slot : goal.bounds-found-slot
+bounds-found-slot c =
     let held = c.args.held.now in
     let front = c.next.new.self.iter.iter.rest.now in
     let there = last-at held.flash.indices _ front _ c.loop-i.invariant.2 c.in-Some.ensures.steps.1.0 in
-    omega (arith, there, entry-le held.flash.indices held.fit.index_long held.fit.slots (length front))
+    omega (arith, there, c.in-Some-slot_in.ensures, entry-le held.flash.indices held.fit.index_long held.fit.slots (length front))
 
-pub loop-i-preserved-then-entry-ne0 : goal.loop-i-preserved-then-entry-ne0
-loop-i-preserved-then-entry-ne0 c =
+pub loop-i-preserved-in-Some-slot_in : goal.loop-i-preserved-in-Some-slot_in
+loop-i-preserved-in-Some-slot_in c =
     let held = c.args.held.now in
     let xs = held.flash.indices in
     let l = c.loop-i in
     let front = c.next.new.self.iter.iter.rest.now in
     let f = l.invariant.2 in
     let s = c.in-Some.ensures.steps in
-    let there : at xs (length front) ≡ c.in-Some.entry.now = last-at xs _ front _ f s.1.0 in
+    let there : at xs (length front) ≡ suc c.in-Some-slot_in.slot = last-at xs _ front _ f s.1.0 ∙ c.in-Some-slot_in.ensures in
     let place : c.in-Some.i ≡ length front = omega arith in
     let passed : Owned (suc (length front)) xs l.found = rw (last-place xs _ front _ f s.1.0) l.invariant.3 in
-    let owned = slot-owned (length front) xs l.found (last-within xs _ front _ f s.1.0) passed (omega arith) (omega (arith, entry-le xs held.fit.index_long held.fit.slots (length front))) in
-    rw place (simp length-set l.invariant.0, s.0 ∙ l.invariant.1, front-next xs _ front _ f s.1.0, rw (there ∙ sym c.from-entry.ensures) at owned)
+    let owned = slot-owned (length front) xs l.found (last-within xs _ front _ f s.1.0) passed c.in-Some-slot_in.slot there (omega (arith, entry-le xs held.fit.index_long held.fit.slots (length front))) in
+    rw place (simp length-set l.invariant.0, s.0 ∙ l.invariant.1, front-next xs _ front _ f s.1.0, owned)
 
 pub loop-i-preserved : goal.loop-i-preserved
 loop-i-preserved c =
@@ -44,9 +44,9 @@ loop-i-preserved c =
     let front = c.next.new.self.iter.iter.rest.now in
     let f = l.invariant.2 in
     let s = c.in-Some.ensures.steps in
-    let there : at xs (length front) ≡ c.in-Some.entry.now = last-at xs _ front _ f s.1.0 in
+    let there : at xs (length front) ≡ 0 = last-at xs _ front _ f s.1.0 ∙ c.in_default.ensures in
     let passed : Owned (suc (length front)) xs l.found = rw (last-place xs _ front _ f s.1.0) l.invariant.3 in
-    (l.invariant.0, s.0 ∙ l.invariant.1, front-next xs _ front _ f s.1.0, closed-owned (length front) xs l.found (last-within xs _ front _ f s.1.0) passed (omega arith))
+    (l.invariant.0, s.0 ∙ l.invariant.1, front-next xs _ front _ f s.1.0, closed-owned (length front) xs l.found (last-within xs _ front _ f s.1.0) passed there)
 
 pub returns : goal.returns
 returns c =
