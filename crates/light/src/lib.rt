@@ -89,9 +89,10 @@ fn run_writes(flash: Flash, calls: &[u64], from: usize, end: usize) -> Ahead
     let may = flash.registers.may_pulse();
     let mut settings = settings_of(flash.registers);
     let mut since = flash.pulse_since;
+    let (numbers, _) = calls.as_chunks::<NUMBERS>();
     for i in from..end {
-        let what = calls[NUMBERS * i];
-        let time = Time(calls[NUMBERS * i + 1], calls[NUMBERS * i + 2]);
+        let [what, seconds, fraction] = numbers[i];
+        let time = Time(seconds, fraction);
         if !is_light(may, settings.control, since, what, time) {
             return Ahead {
                 flash: lit(flash, settings, since),
