@@ -30,6 +30,8 @@ Port and original in turn in one run, both compiled for release and for any x86-
 repetitions after a warm-up. Buffers are warm: record, array, charge store, event words and outputs are lent once, used
 again and not cleared. The original works on its own heap, which the allocator hands out again warm; its events go as
 words into memory that is used again. What a first settling or a reading replaces is renewed outside of the time.
+A peek, a cell's charge and a blank page are done once before the clock starts, as the original's image has emptied the
+caches.
 
 *opened*: mixed firmware, the pages have charges, no byte changes. *first*: the settling opens the pages, and every byte
 changes. *linear or better*: a page costs no more than in a smaller line, but for 15 % of noise and, in snapshots, the
