@@ -9,7 +9,7 @@ ghost use Rattle.settle.specs.Settling.{ends_of, range_bytes, range_end, word};
 use calling::ending;
 use cell::PAGE_BYTES;
 use registers::{Call, Pulse};
-use settling::{EventKind, word};
+use settling::EventKind;
 
 // The end event's word of a pulse whose range is not empty.
 fn end_word(pulse: Pulse, call: Call, control: u8) -> u64
@@ -17,7 +17,7 @@ fn end_word(pulse: Pulse, call: Call, control: u8) -> u64
     ensures { result ≡ word (ending_number (ending pulse.direction call control)) (pulse.first * page_bytes) (pulse.pages * page_bytes) }
 {
     let kind = EventKind::from(ending(pulse.direction, call, control));
-    word(kind, pulse.first * PAGE_BYTES, pulse.pages * PAGE_BYTES)
+    kind.word(pulse.first * PAGE_BYTES, pulse.pages * PAGE_BYTES)
 }
 
 // The end of a pulse that a call changed, told after `count` words. The answer is the count after.

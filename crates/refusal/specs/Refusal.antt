@@ -1,6 +1,7 @@
 -- The table of refusals: the number of each, and what an outcome tells. Document 01, "Order of checking".
 -- Assumes nothing.
-use Rattle.std.specs.Prelude.{ℕ, ◌≡◌, cond, eqb, Result, Ok, Err}
+use Rattle.std.specs.Prelude.{ℕ, ◌≡◌, ◌<◌, ◌⊎◌, cond, eqb, Result, Ok, Err, MatchResult}
+use Rattle.refusal.specs.declared.NoRefusal.{NoRefusal}
 use Rattle.refusal.specs.declared.Refusal.{Refusal}
 use Rattle.refusal.specs.declared.Refusal.TheVariants.{Firmware, Memory, Record, Place, LastSecond, TooEarly, Events, Output, EndsEarly, Field, LeftOver, Invalid}
 
@@ -17,6 +18,10 @@ number EndsEarly = 9
 number Field = 10
 number LeftOver = 11
 number Invalid = 12
+
+-- the result is the refusal with this number, or an error with the number, which no refusal has
+abbrev pub Decodes : ℕ → Result Refusal NoRefusal → Type 0
+Decodes n r = MatchResult r (λ refusal. number refusal ≡ n) (λ e. (e.0 ≡ n) × ((n ≡ 0) ⊎ (12 < n)))
 
 -- the refusal with a number, which is one of the table's
 unfoldable pub numbered : ℕ → Refusal

@@ -2,7 +2,7 @@
 #![tactic(auto)]
 
 ghost use Rattle.std.specs.Prelude.{◌≡◌, MatchResult};
-ghost use Rattle.refusal.specs.Refusal.{number, told};
+ghost use Rattle.refusal.specs.Refusal.{Decodes, number, told};
 
 #[derive(Clone, Copy, Debug, PartialEq, Eq)]
 pub enum Refusal {
@@ -34,6 +34,34 @@ impl From<Refusal> for u32 {
 
     fn from(refusal: Refusal) -> u32 {
         refusal as u32
+    }
+}
+
+// A number that no refusal has.
+#[derive(Clone, Copy, Debug, PartialEq, Eq)]
+pub struct NoRefusal(pub u32);
+
+impl TryFrom<u32> for Refusal {
+    type Error = NoRefusal;
+
+    ghost try_from_gives = { Decodes };
+
+    fn try_from(number: u32) -> Result<Refusal, NoRefusal> {
+        match number {
+            1 => Ok(Refusal::Firmware),
+            2 => Ok(Refusal::Memory),
+            3 => Ok(Refusal::Record),
+            4 => Ok(Refusal::Place),
+            5 => Ok(Refusal::LastSecond),
+            6 => Ok(Refusal::TooEarly),
+            7 => Ok(Refusal::Events),
+            8 => Ok(Refusal::Output),
+            9 => Ok(Refusal::EndsEarly),
+            10 => Ok(Refusal::Field),
+            11 => Ok(Refusal::LeftOver),
+            12 => Ok(Refusal::Invalid),
+            _ => Err(NoRefusal(number)),
+        }
     }
 }
 

@@ -1,5 +1,5 @@
 // Refusals in document 01's own words. They are put as they are, since one of them has a mark of templates in it. Functions that differ in
-// a template alone each give their sentence a name.
+// a template alone each give their sentence a name. Each takes a refusal, or any number: one that no refusal has is told without words.
 #![tactic(auto, using(text::proofs::Joined::some_text))]
 
 ghost use Rattle.text.specs.Says.{SaysSome};
@@ -33,49 +33,55 @@ fn words(why: Refusal) -> &'static [u8] {
     }
 }
 
-// A refusal after what was begun, to the line's end.
-fn ended(text: &mut Text, why: Refusal)
+// The words of the refusal with a number after what was begun, to the line's end. A number that no refusal has puts no words.
+fn ended(text: &mut Text, number: u32)
     ensures { SaysSome text.old text.new }
 {
-    text.put_text(words(why));
+    if let Ok(why) = Refusal::try_from(number) {
+        text.put_text(words(why));
+    }
     text.put_byte(b'\n');
 }
 
 // A call that is refused, with the number of its line.
-pub fn refusal(text: &mut Text, line_number: u64, why: Refusal)
+pub fn refusal<N: Into<u32>>(text: &mut Text, line_number: u64, why: N)
     ensures { SaysSome text.old text.new }
 {
-    let numbers = [line_number, why as u64];
+    let number: u32 = why.into();
+    let numbers = [line_number, u64::from(number)];
     text.say(b"line %: the call is refused, %: ", &numbers);
-    ended(text, why);
+    ended(text, number);
 }
 
 // A file that is no snapshot.
-pub fn no_snapshot(text: &mut Text, word: &[u8], why: Refusal)
+pub fn no_snapshot<N: Into<u32>>(text: &mut Text, word: &[u8], why: N)
     ensures { SaysSome text.old text.new }
 {
-    let numbers = [why as u64];
+    let number: u32 = why.into();
+    let numbers = [u64::from(number)];
     text.fill(b"wipe: @ is no snapshot, refusal %: ", word, &numbers);
-    ended(text, why);
+    ended(text, number);
 }
 
 // A look of the history that is refused, with the number of its line.
-pub fn look_refusal(text: &mut Text, line_number: u64, why: Refusal)
+pub fn look_refusal<N: Into<u32>>(text: &mut Text, line_number: u64, why: N)
     ensures { SaysSome text.old text.new }
 {
-    let numbers = [line_number, why as u64];
+    let number: u32 = why.into();
+    let numbers = [line_number, u64::from(number)];
     text.say(b"line %: the look is refused, %: ", &numbers);
-    ended(text, why);
+    ended(text, number);
 }
 
 // A verdict's time at which no look is possible.
-pub fn unseen(text: &mut Text, why: Refusal)
+pub fn unseen<N: Into<u32>>(text: &mut Text, why: N)
     ensures { SaysSome text.old text.new }
 {
-    let numbers = [why as u64];
+    let number: u32 = why.into();
+    let numbers = [u64::from(number)];
     text.say(
         b"wipe: the flash can't be looked at then, refused by %: ",
         &numbers,
     );
-    ended(text, why);
+    ended(text, number);
 }

@@ -48,10 +48,20 @@ impl From<Ending> for EventKind {
 
 // An event word.
 #[tactic(auto, unfolding(settle::specs::Settling::word))]
-pub fn word(kind: EventKind, address: u16, value: u16) -> u64
-    ensures { result ≡ word (kind_number kind) address value }
+pub fn word(kind: u64, address: u64, value: u64) -> u64
+    requires { (kind < 4) × (address < 65536) × (value < 65536) }
+    ensures { result ≡ word kind address value }
 {
-    u64::from(kind) * KIND + u64::from(address) * ADDRESS + u64::from(value)
+    kind * KIND + address * ADDRESS + value
+}
+
+impl EventKind {
+    // The event word of this kind.
+    pub fn word(self, address: u16, value: u16) -> u64
+        ensures { result ≡ word (kind_number self) address value }
+    {
+        word(u64::from(self), u64::from(address), u64::from(value))
+    }
 }
 
 // The event word of a byte.
@@ -59,7 +69,7 @@ fn byte_word(address: usize, value: u8) -> u64
     requires { address < array_bytes }
     ensures { result ≡ word byte_kind address value }
 {
-    word(EventKind::Byte, address as u16, u16::from(value))
+    EventKind::Byte.word(address as u16, u16::from(value))
 }
 
 // A page takes its bytes; each change is an event. The answer is the count after. Here and below each function asks for room for the words

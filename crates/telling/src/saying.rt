@@ -3,7 +3,6 @@ use faults::fault;
 use notices::help::help;
 use notices::{image_length, not_opened, not_written};
 use reason::Reason;
-use refusal::Refusal;
 use refusals::{look_refusal, no_snapshot, refusal, unseen};
 use text::Text;
 
@@ -26,7 +25,7 @@ pub fn say_progress<R: Eprint>(rt: &R, lines: u64) {
     let _ = eprintln!(rt; "{lines} lines read");
 }
 
-// ---- complaints
+// ---- complaints, of refusals or of any number, as `refusals` takes them
 
 // Columns count from 1.
 pub fn say_fault<S: Print>(
@@ -43,17 +42,20 @@ pub fn say_fault<S: Print>(
     }
 }
 
-pub fn say_refusal<S: Print>(to: &S, line: u64, why: Refusal) {
-    say(to, |text| refusal(text, line, why));
+pub fn say_refusal<S: Print, N: Into<u32>>(to: &S, line: u64, why: N) {
+    let number: u32 = why.into();
+    say(to, |text| refusal(text, line, number));
 }
 
-pub fn say_look_refused<S: Print>(to: &S, line: u64, why: Refusal) {
-    say(to, |text| look_refusal(text, line, why));
+pub fn say_look_refused<S: Print, N: Into<u32>>(to: &S, line: u64, why: N) {
+    let number: u32 = why.into();
+    say(to, |text| look_refusal(text, line, number));
 }
 
 // No look is possible at the verdict's time.
-pub fn say_unseen<S: Print>(to: &S, why: Refusal) {
-    say(to, |text| unseen(text, why));
+pub fn say_unseen<S: Print, N: Into<u32>>(to: &S, why: N) {
+    let number: u32 = why.into();
+    say(to, |text| unseen(text, number));
 }
 
 // ---- help and the report
@@ -87,6 +89,7 @@ pub fn say_not_read<S: Print>(to: &S, path: &[u8]) {
     );
 }
 
-pub fn say_no_snapshot<S: Print>(to: &S, path: &[u8], why: Refusal) {
-    say(to, |text| no_snapshot(text, path, why));
+pub fn say_no_snapshot<S: Print, N: Into<u32>>(to: &S, path: &[u8], why: N) {
+    let number: u32 = why.into();
+    say(to, |text| no_snapshot(text, path, number));
 }
