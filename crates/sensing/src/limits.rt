@@ -88,9 +88,8 @@ impl Ceilings {
         let table = classes();
         let by_class = row(sense);
         let mut limits = [0u64; 256];
-        for i in 0..256 {
-            let c = usize::from(table[i] % 16);
-            limits[i] = by_class[c];
+        for (i, class) in table.iter().enumerate() {
+            limits[i] = by_class[usize::from(*class % 16)];
         }
         Ceilings { sense, limits }
     }

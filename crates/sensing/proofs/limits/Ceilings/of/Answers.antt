@@ -11,7 +11,7 @@ use Rattle.sensing.proofs.limits.Ceilings.of.Invariants.{by-class-there}
 use Rattle.sensing.proofs.limits.Ceilings.of.Goals as goal
 
 pub loop-i-preserved : goal.loop-i-preserved
-loop-i-preserved c = let l = c.loop-i in partly-turn (by-class-there c.classes-table.result c.row-by_class.result) l.i (replicate 256 0) l.limits _ l.invariant (rw c.from-c.ensures)
+loop-i-preserved c = let l = c.loop-i in partly-turn (by-class-there c.classes-table.result c.row-by_class.result) l.i (replicate 256 0) l.limits _ l.invariant (rw c.from.ensures)
 
 pub invariant_of-result : goal.invariant_of-result
 unfolding ceiling_table

@@ -11,4 +11,4 @@ abbrev pub by-class-there : List ℕ → List ℕ → ℕ → ℕ → ℕ
 by-class-there table row k x = at row (at table k % 16)
 
 abbrev pub invariant-loop-i : goal.invariant-loop-i
-invariant-loop-i l = l.limits ≡ partly (by-class-there l.table l.by_class) l.i l.initial.limits
+invariant-loop-i l = l.limits ≡ partly (by-class-there l.class-items l.by_class) l.i l.initial.limits
