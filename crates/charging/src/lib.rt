@@ -88,10 +88,9 @@ fn open(cells: &mut [u64], bytes: &[u8; PAGE])
     requires { length cells.old ≡ page_cells }
     ensures { cells.new ≡ opened_page bytes.now cells.old }
 {
-    for i in 0..PAGE {
-        let stored = bytes[i];
+    for (i, stored) in bytes.iter().enumerate() {
         for k in 0..8 {
-            cells[8 * i + k] = first_charge(bit(stored, k));
+            cells[8 * i + k] = first_charge(bit(*stored, k));
         }
     }
 }
@@ -102,11 +101,10 @@ fn charge(cells: &mut [u64], latch: &[u8; PAGE], direction: Direction, lasting: 
     ensures { cells.new ≡ charged_page direction latch.now (span lasting) cells.old }
 {
     let by = amount(direction, lasting);
-    for i in 0..PAGE {
-        let latched = latch[i];
+    for (i, latched) in latch.iter().enumerate() {
         for k in 0..8 {
             let j = 8 * i + k;
-            cells[j] = moved(direction, bit(latched, k), by, cells[j]);
+            cells[j] = moved(direction, bit(*latched, k), by, cells[j]);
         }
     }
 }
