@@ -63,9 +63,8 @@ module _ (s : ℕ) (f : ℕ → ℕ → ℕ) (qs : List ℕ) (fits : s * 1024 + 
       (rw e at (put-after (s * 1024) 1024 qs (mapi f 0 lent) (length-mapi f 0 lent ∙ length-lent) fits (i - (s * 1024 + 1024))))
       ∙ sym (get_or-on_slot-outside s f qs i (omega arith))
 
-  pub slot-back : put_mid (s * 1024) (s * 1024 + 1024 - s * 1024) qs (mapi f 0 (mid_of (s * 1024) (s * 1024 + 1024 - s * 1024) qs)) ≡ on_slot s f qs
+  pub slot-back : put_mid (s * 1024) 1024 qs (mapi f 0 (mid_of (s * 1024) 1024 qs)) ≡ on_slot s f qs
   unfolding lent Same
   slot-back =
-      let e : s * 1024 + 1024 - s * 1024 ≡ 1024 = omega arith in
-      rw e (ext_get_or 0 _ _ (same_len_mid (s * 1024) 1024 qs (mapi f 0 lent) (length-mapi f 0 lent) ∙ sym (length-on_slot s f qs))
-      (λ i h. same i (dec_lt i (s * 1024)) (dec_lt i (s * 1024 + 1024))))
+      ext_get_or 0 _ _ (same_len_mid (s * 1024) 1024 qs (mapi f 0 lent) (length-mapi f 0 lent) ∙ sym (length-on_slot s f qs))
+      (λ i h. same i (dec_lt i (s * 1024)) (dec_lt i (s * 1024 + 1024)))

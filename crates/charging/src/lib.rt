@@ -83,9 +83,7 @@ pub fn first_charge(stored: u8) -> u64
 
 // A page's first charges, from its stored bytes: each is read once for its eight cells. Here and below a loop over cells, each by its bit of
 // the page, takes up to half as long again.
-// A page's cells are a slice: `as_chunks_mut` tells nothing of what is written back, and `first_chunk_mut` has a `None` that never comes.
-fn open(cells: &mut [u64], bytes: &[u8; PAGE])
-    requires { length cells.old ≡ page_cells }
+fn open(cells: &mut [u64; PAGE_CELLS], bytes: &[u8; PAGE])
     ensures { cells.new ≡ opened_page bytes.now cells.old }
 {
     for (i, stored) in bytes.iter().enumerate() {
@@ -96,8 +94,12 @@ fn open(cells: &mut [u64], bytes: &[u8; PAGE])
 }
 
 // A page's charges after an exposure. Each byte of the latch is read once for its eight cells.
-fn charge(cells: &mut [u64], latch: &[u8; PAGE], direction: Direction, lasting: Duration)
-    requires { length cells.old ≡ page_cells }
+fn charge(
+    cells: &mut [u64; PAGE_CELLS],
+    latch: &[u8; PAGE],
+    direction: Direction,
+    lasting: Duration,
+)
     ensures { cells.new ≡ charged_page direction latch.now (span lasting) cells.old }
 {
     let by = amount(direction, lasting);
@@ -109,14 +111,14 @@ fn charge(cells: &mut [u64], latch: &[u8; PAGE], direction: Direction, lasting: 
     }
 }
 
-// A page takes a slot of the charge store.
+// A page takes a slot of the charge store. Here and below the store is split and no range of it taken: what is written to the first chunk of
+// a range would not be known.
 pub fn open_slot(charges: &mut [u64], slot: usize, bytes: &[u8; PAGE])
     requires { (length charges.old ≡ array_cells) × (slot < pages) }
     ensures { charges.new ≡ opened_slot slot bytes.now charges.old }
 {
-    let from = slot * PAGE_CELLS;
-    let to = from + PAGE_CELLS;
-    open(&mut charges[from..to], bytes);
+    let (_, rest) = charges.split_at_mut(slot * PAGE_CELLS);
+    open(rest.first_chunk_mut().unwrap(), bytes);
 }
 
 // The page in a slot of the charge store is exposed.
@@ -130,7 +132,6 @@ pub fn charge_slot(
     requires { (length charges.old ≡ array_cells) × (slot < pages) }
     ensures { charges.new ≡ charged_slot slot direction latch.now (span lasting) charges.old }
 {
-    let start = slot * PAGE_CELLS;
-    let end = start + PAGE_CELLS;
-    charge(&mut charges[start..end], latch, direction, lasting);
+    let (_, cells) = charges.split_at_mut(slot * PAGE_CELLS);
+    charge(cells.first_chunk_mut().unwrap(), latch, direction, lasting);
 }

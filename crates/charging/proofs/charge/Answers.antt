@@ -45,6 +45,6 @@ returns c =
     let l = c.loop-i in
     let e : 8 * l.i ≡ 1024 = omega arith in
     l.invariant
-    ∙ partly-all _ _ _ (e ∙ sym c.requires)
+    ∙ partly-all _ _ _ (e ∙ sym c.told-cells)
     ∙ clipped-page x.direction x.latch.now (span x.lasting) _ x.cells.now c.amount-by.ensures
     (λ k. search arith)

@@ -33,4 +33,4 @@ unfolding opened_page
 returns c =
     let l = c.loop-i in
     let e : 8 * l.i ≡ 1024 = omega arith in
-    l.invariant ∙ partly-all _ _ _ (e ∙ sym c.requires)
+    l.invariant ∙ partly-all _ _ _ (e ∙ sym c.told-cells)

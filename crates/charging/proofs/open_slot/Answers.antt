@@ -9,4 +9,6 @@ pub returns : goal.returns
 unfolding opened_slot opened_page
 returns c =
     let x = c.args in
-    rw c.«open».ensures (slot-back x.slot _ x.charges.now (omega arith))
+    let chunk = rw c.unwrap.ensures at c.first_chunk_mut.ensures.cases in
+    let parts = c.split_at_mut-rest.ensures in
+    rw (c.«open».ensures, chunk.same, parts.front, parts.back) (slot-back x.slot _ x.charges.now (omega arith))
