@@ -137,9 +137,7 @@ pub fn expose(cells: &mut CellsMut, events: &mut [u64], exposure: &Option<Exposu
     let number = usize::from(pulse.pages);
     let mut next = opened(cells.seen().index);
     let mut count: usize = 0;
-    // By turns and not by page: what is known after a turn goes by how many pages are passed.
-    for i in 0..number {
-        let page = first + i;
+    for page in first..first + number {
         let array = &mut *cells.array;
         let slot = charge_page(
             cells.index,
