@@ -14,7 +14,6 @@ use grammar::Line;
 use std::io;
 use std::rt::Files;
 use telling::reading::open;
-use telling::saying::say_not_opened;
 use telling::{Outlets, Told};
 
 mod complaints;
@@ -107,9 +106,6 @@ pub fn read_history<R: Files + Print + Eprint, S: Print>(
     ensures same { SameBench bench.old bench.new }
     ensures whole { IfOk result (λ after. ReadWhole manner (desk_on course bench.old) after (memory_at bench.new.memory) bench.new.events.now) }
 {
-    let Some(mut file) = open(outlets.rt, path) else {
-        say_not_opened(outlets.says, path);
-        return Err(Told);
-    };
+    let mut file = open(outlets, path)?;
     read_file(outlets, &mut file, path, manner, course, bench)
 }

@@ -2,7 +2,7 @@
 ghost use Rattle.lent.specs.Views.{SameLent};
 
 use crate::reading::{open, read_full};
-use crate::saying::{say_image_length, say_no_snapshot, say_not_opened};
+use crate::saying::{say_image_length, say_no_snapshot};
 use crate::{Outlets, Told};
 use cell::FLASH_SIZE;
 use lent::making::make;
@@ -29,16 +29,13 @@ fn begin_empty(memory: &mut LentMut) -> Result<(), Told>
     begin_with(&[0xFF; FLASH_SIZE], memory)
 }
 
-// A file's bytes, in the buffer, unless it can't be opened, which is then said.
+// A file's bytes, in the buffer, unless it can't be opened.
 fn load<'a, R: Files, S: Print>(
     outlets: Outlets<R, S>,
     path: &[u8],
     buffer: &'a mut [u8],
 ) -> Result<&'a [u8], Told> {
-    let Some(mut file) = open(outlets.rt, path) else {
-        say_not_opened(outlets.says, path);
-        return Err(Told);
-    };
+    let mut file = open(outlets, path)?;
     let n = read_full(&mut file, buffer);
     Ok(first(buffer, n))
 }

@@ -1,13 +1,20 @@
 // Files that are read.
+use crate::saying::say_not_opened;
+use crate::{Outlets, Told};
 use std::fs;
 use std::io::Read;
 use std::rt::Files;
 use std::str::from_utf8;
 
-// A file that is open for reading, unless there is none that can be read.
-pub fn open<R: Files>(rt: &R, path: &[u8]) -> Option<R::File> {
-    let name = from_utf8(path).ok()?;
-    fs::open(rt, name).ok()
+// A file that is open for reading, unless it can't be opened, which is then said. No file has a name that is no text.
+pub fn open<R: Files, S: Print>(outlets: Outlets<R, S>, path: &[u8]) -> Result<R::File, Told> {
+    let file = from_utf8(path)
+        .ok()
+        .and_then(|name| fs::open(outlets.rt, name).ok());
+    file.ok_or_else(|| {
+        say_not_opened(outlets.says, path);
+        Told
+    })
 }
 
 // Reads until the buffer is full, the file ends or a read fails, and answers how many bytes stand at the buffer's start.
