@@ -9,7 +9,7 @@ use lib.ListN.{length, take}
 use Rattle.std.proofs.lemmas.Bool.{true_from_ne_false}
 use Rattle.lent.specs.Memory.{Memory}
 use Rattle.grammar.specs.declared.Line.TheVariants as line
-use Rattle.std.specs.Prelude.{Result, Ok, Err, IfOk, option_to_list}
+use Rattle.std.specs.Prelude.{Result, Ok, Err, IfOk, OnErr, option_to_list}
 use Rattle.course.specs.declared.Complaint.{Complaint}
 use Rattle.course.specs.declared.Course.{Course}
 use Rattle.course.specs.declared.Manner.{Manner}
@@ -25,7 +25,7 @@ use Rattle.steps.proofs.Lines.{place-sound}
 use Rattle.course.specs.declared.memory.Bench.{Bench}
 use Rattle.course.specs.Views.{SameBench}
 use Rattle.session.specs.declared.run.Run.{Run}
-use Rattle.session.specs.Going.{Standing, read_on, Goes, reader_in, ReadWhole, Begins, WithPiece, with_failure, Moves}
+use Rattle.session.specs.Going.{Standing, read_on, Goes, reader_in, ReadWhole, Begins, WithPiece, Moves}
 
 -- ---- one after the other
 
@@ -131,10 +131,12 @@ new-piece {have} {r} {r'} k b = record {
       (goes-nowhere w r.more (reader_in w r b m events));
 }
 
-pub no-piece : (r : Run) (b : Backlog) → Moves r b (with_failure r) b
-no-piece r b = record { goes = λ w m events. goes-nowhere w r.more (reader_in w r b m events) }
-
 -- ---- turns
+
+-- what holds anyway holds on a failure
+pub on-failure : {A E P : Type 0} (r : Result A E) → P → OnErr r P
+on-failure (Ok x) p = tt
+on-failure (Err why) p = p
 
 pub same-bench : (x : Bench) → SameBench x x
 same-bench x = record { same_lent = record { same_record = refl; same_array = refl; same_charges = refl }; same_events = refl; same_out = refl }

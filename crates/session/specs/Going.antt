@@ -39,6 +39,11 @@ pub record Goes (w : Manner) (more more' : Bool) (r r' : Reader) : Type 0 where
 abbrev pub reader_in : Manner → Run → Backlog → Memory → List ℕ → Reader
 reader_in w r b m events = reader_of w r.place b (desk r.course m events)
 
+-- A file could be read no further: some bytes of it led to a run that stood in its memory so.
+pub record GoesSome (w : Manner) (more : Bool) (r : Reader) (b : Backlog) (m : Memory) (events : List ℕ) : Type 0 where
+  pub last : Run
+  pub goes : Goes w more last.more r (reader_in w last b m events)
+
 -- A file was read whole: its text left this course, memory and event words.
 pub record ReadWhole (w : Manner) (before : Desk) (c : Course) (m : Memory) (events : List ℕ) : Type 0 where
   pub text : List ℕ
@@ -51,7 +56,6 @@ pub record ReadWhole (w : Manner) (before : Desk) (c : Course) (m : Memory) (eve
 pub record Begins (c : Course) (r : Run) : Type 0 where
   pub have_none : r.have ≡ 0
   pub more_to_come : r.more ≡ true
-  pub not_failed : r.failed ≡ false
   pub starts : (w : Manner) (b : Backlog) (m : Memory) (events : List ℕ) → reader_in w r b m events ≡ starts_with (desk c m events)
 
 -- r' is a run with a new piece of so many bytes.
@@ -68,11 +72,6 @@ pub record WithPiece (have : ℕ) (r r' : Run) : Type 0 where
   pub at_is : r'.place.at ≡ 0
   pub have_is : r'.have ≡ have
   pub more_is : r'.more ≡ r.more
-  pub failed_is : r'.failed ≡ r.failed
-
--- the file could not be read
-abbrev pub with_failure : Run → Run
-with_failure r = record r { failed = true }
 
 -- Nothing but the text was touched, so that whatever the flash is, the run goes on from one place to another.
 pub record Moves (r : Run) (b : Backlog) (r' : Run) (b' : Backlog) : Type 0 where

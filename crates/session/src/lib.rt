@@ -49,7 +49,6 @@ fn beginning(course: Course) -> Run
         },
         have: 0,
         more: true,
-        failed: false,
     }
 }
 
@@ -57,7 +56,7 @@ fn beginning(course: Course) -> Run
 fn whole(run: Run) -> Result<Course, Told>
     ensures { IfOk result (λ after. (after ≡ run.course) × (run.course.stopped ≡ false) × (run.more ≡ false) × (run.place.running ≡ false)) }
 {
-    if run.course.stopped | run.more | run.place.running | run.failed {
+    if run.course.stopped | run.more | run.place.running {
         return Err(Told);
     }
     Ok(run.course)
@@ -90,7 +89,7 @@ fn read_file<R: Print + Eprint, F: io::Read, S: Print>(
         bench,
         &mut backlog,
         &mut piece,
-    );
+    )?;
     whole(run)
 }
 

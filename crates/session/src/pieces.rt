@@ -1,14 +1,15 @@
 // The file comes in pieces. That it may have more and that no call is run is asked of private functions behind one test: a type that says it
 // would be taken apart by the next `match`.
-ghost use Rattle.std.specs.Prelude.{◌≡◌, true, false, ◌≤◌};
+ghost use Rattle.std.specs.Prelude.{◌≡◌, true, false, ◌≤◌, IfOk, OnErr};
 ghost use Rattle.session.specs.Pieces.{piece_bytes};
-ghost use Rattle.session.specs.Going.{WithPiece, with_failure, Moves};
+ghost use Rattle.session.specs.Going.{WithPiece, Moves};
 
 use crate::Piece;
 use crate::run::Run;
 use course::memory::Backlog;
 use std::io::Read;
 use steps::reading::close;
+use telling::Told;
 use telling::saying::say_not_read;
 
 // A new piece of so many bytes.
@@ -33,15 +34,7 @@ fn closed(run: Run, backlog: &mut Backlog) -> Run
     last
 }
 
-fn with_failure(run: Run) -> Run
-    ensures { result ≡ with_failure run }
-{
-    let mut broken = run;
-    broken.failed = true;
-    broken
-}
-
-// The next piece of the file, or its end.
+// The next piece of the file, or its end. That it can't be read ends the run.
 pub fn next_piece<F: Read, S: Print>(
     file: &mut F,
     path: &[u8],
@@ -49,17 +42,18 @@ pub fn next_piece<F: Read, S: Print>(
     run: Run,
     backlog: &mut Backlog,
     piece: &mut Piece,
-) -> Run
+) -> Result<Run, Told>
     requires { (run.place.running ≡ false) × (run.have ≤ run.place.at) × (run.more ≡ true) }
-    ensures { Moves run backlog.old result backlog.new }
+    ensures moves { IfOk result (λ next. Moves run backlog.old next backlog.new) }
+    ensures failed { OnErr result (backlog.new ≡ backlog.old) }
 {
     let bytes: &mut [u8] = piece;
     match file.read(bytes) {
         Err(_) => {
             say_not_read(says, path);
-            with_failure(run)
+            Err(Told)
         }
-        Ok(0) => closed(run, backlog),
-        Ok(got) => with_piece(run, got),
+        Ok(0) => Ok(closed(run, backlog)),
+        Ok(got) => Ok(with_piece(run, got)),
     }
 }
