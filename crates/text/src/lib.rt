@@ -8,6 +8,7 @@ ghost use Rattle.text.specs.Text.{filled};
 ghost use Rattle.text.specs.Says.{Says};
 
 use crate::marks::{mark_of, taken};
+use slices::first;
 
 pub mod marks;
 pub mod putting;
@@ -53,7 +54,7 @@ impl Text<'_> {
     pub fn as_bytes(&self) -> &[u8]
         ensures { result.now ≡ take self.now.at self.now.out.now }
     {
-        &self.out[..self.at.min(self.out.len())]
+        first(self.out, self.at)
     }
 
     // Puts a template with its marks filled.
