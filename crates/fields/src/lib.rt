@@ -3,7 +3,7 @@
 
 ghost use Rattle.std.specs.Prelude.{◌≡◌, ◌<◌, ◌^◌, IfOk};
 ghost use Rattle.digits.specs.Digits.{hex_in};
-ghost use Rattle.fields.specs.Fields.{bytes_of, fault_at, number_of, register_in, value_in, address_in, byte_in, bit_in, mode_in, module_in, oscillator_in};
+ghost use Rattle.fields.specs.Fields.{bytes_of, below, fault_at, number_of, register_in, value_in, address_in, byte_in, bit_in, mode_in, module_in, oscillator_in};
 
 use digits::hexadecimal;
 use names::values::bits_named;
@@ -62,17 +62,31 @@ pub fn value_in(register: u16, w: LineWord) -> Result<u8, Fault>
     })
 }
 
+// A number of so many digits below a limit, with a reason for what is no such number and one for what lies past the limit.
+fn number_below(
+    digits: usize,
+    limit: u64,
+    none: Reason,
+    past: Reason,
+    w: LineWord,
+) -> Result<u64, Fault>
+    ensures is { result ≡ below limit past w.entry.place (number_of none w.entry.place (hex_in digits (bytes_of w.entry.line.now w.entry.place))) }
+    ensures below { IfOk result (λ n. n < limit) }
+{
+    let n = number_in(digits, none, w)?;
+    if n < limit {
+        Ok(n)
+    } else {
+        Err(Fault::at(past, w.place))
+    }
+}
+
 // An address below a limit, which has four digits.
 #[tactic(auto, unfolding(crate::specs::Fields::address_in))]
 pub fn address_in(limit: u16, past: Reason, w: LineWord) -> Result<u16, Fault>
     ensures { result ≡ address_in limit past w.entry.line.now w.entry.place }
 {
-    let n = number_in(4, Reason::NoAddress, w)?;
-    if n < u64::from(limit) {
-        Ok(n as u16)
-    } else {
-        Err(Fault::at(past, w.place))
-    }
+    Ok(number_below(4, u64::from(limit), Reason::NoAddress, past, w)? as u16)
 }
 
 #[tactic(auto, unfolding(crate::specs::Fields::byte_in))]
@@ -87,12 +101,7 @@ pub fn byte_in(w: LineWord) -> Result<u8, Fault>
 pub fn bit_in(w: LineWord) -> Result<u8, Fault>
     ensures { result ≡ bit_in w.entry.line.now w.entry.place }
 {
-    let n = number_in(1, Reason::NoBitNumber, w)?;
-    if n < 8 {
-        Ok(n as u8)
-    } else {
-        Err(Fault::at(Reason::NoBitNumber, w.place))
-    }
+    Ok(number_below(1, 8, Reason::NoBitNumber, Reason::NoBitNumber, w)? as u8)
 }
 
 // A mode and two supplies have each a table, a type and a reason of their own. One function over them would have three parameters for one line.
