@@ -1,8 +1,7 @@
 // The words of each call, after the word that names it.
-ghost use Rattle.std.specs.Prelude.{◌≡◌, MatchResult, Err};
+ghost use Rattle.std.specs.Prelude.{◌≡◌, MatchResult, Result, Err};
 ghost use Rattle.lent.specs.declared.Request.{Request};
 ghost use Rattle.grammar.specs.declared.Line.TheVariants.{Call};
-ghost use Rattle.fields.specs.Fields.{address_in};
 ghost use Rattle.grammar.specs.Grammar.{next, ended, value_line, write_line, byte_line, data_line, read_line, word_line, oscillator_line, module_line, environment_line, cell_line, look_line};
 
 use crate::{Line, Looking};
@@ -28,15 +27,30 @@ pub fn ended(whole: Line, w: LineWord) -> Result<Line, Fault>
     }
 }
 
+// A call whose last word is read, and whose request is made of what that word means.
+fn last_word<T, R: FnOnce(LineWord) -> Result<T, Fault>, F: FnOnce(T) -> Request>(
+    time: Time,
+    read: R,
+    request: F,
+    w: LineWord,
+) -> Result<Line, Fault>
+    requires reader { R.IsAlwaysCallable read }
+    requires request { F.IsAlwaysCallable request }
+    ensures { (word : LineWord) × (word.line.now ≡ w.entry.line.now) × (word.place ≡ next w.entry.line.now w.entry.place) × ((meant : Result T Fault) × R.post read word meant × MatchResult meant (λ a. (r : Request) × F.post request a r × (result ≡ ended (Call time r) word.line.now word.place)) (λ f. result ≡ Err f)) }
+{
+    let word = w.next();
+    ended(Line::Call(time, request(read(word)?)), word)
+}
+
 #[tactic(auto, unfolding(crate::specs::Grammar::value_line))]
 fn value_line(time: Time, register: u16, w: LineWord) -> Result<Line, Fault>
     ensures { result ≡ value_line time register w.entry.line.now w.entry.place }
 {
-    let word = w.next();
-    let value = value_in(register, word)?;
-    ended(
-        Line::Call(time, Request::WriteRegister(register, value)),
-        word,
+    last_word(
+        time,
+        |word| value_in(register, word),
+        |value| Request::WriteRegister(register, value),
+        w,
     )
 }
 
@@ -52,9 +66,7 @@ pub fn write_line(time: Time, w: LineWord) -> Result<Line, Fault>
 fn byte_line(time: Time, address: u16, w: LineWord) -> Result<Line, Fault>
     ensures { result ≡ byte_line time address w.entry.line.now w.entry.place }
 {
-    let word = w.next();
-    let value = byte_in(word)?;
-    ended(Line::Call(time, Request::Write8(address, value)), word)
+    last_word(time, byte_in, |value| Request::Write8(address, value), w)
 }
 
 #[tactic(auto, unfolding(crate::specs::Grammar::data_line))]
@@ -66,37 +78,25 @@ pub fn data_line(time: Time, w: LineWord) -> Result<Line, Fault>
     byte_line(time, address, word)
 }
 
-// A call whose one word is an address below a limit.
-fn address_line<F: FnOnce(u16) -> Request>(
-    time: Time,
-    limit: u16,
-    past: Reason,
-    request: F,
-    w: LineWord,
-) -> Result<Line, Fault>
-    requires { F.IsAlwaysCallable request }
-    ensures { MatchResult (address_in limit past w.entry.line.now (next w.entry.line.now w.entry.place)) (λ a. (r : Request) × F.post request a r × (result ≡ ended (Call time r) w.entry.line.now (next w.entry.line.now w.entry.place))) (λ f. result ≡ Err f) }
-{
-    let word = w.next();
-    let address = address_in(limit, past, word)?;
-    ended(Line::Call(time, request(address)), word)
-}
-
 #[tactic(auto, unfolding(crate::specs::Grammar::read_line))]
 pub fn read_line(time: Time, w: LineWord) -> Result<Line, Fault>
     ensures { result ≡ read_line time w.entry.line.now w.entry.place }
 {
-    address_line(time, ARRAY_BYTES, Reason::PastTheEnd, Request::Read8, w)
+    last_word(
+        time,
+        |word| address_in(ARRAY_BYTES, Reason::PastTheEnd, word),
+        Request::Read8,
+        w,
+    )
 }
 
 #[tactic(auto, unfolding(crate::specs::Grammar::word_line))]
 pub fn word_line(time: Time, w: LineWord) -> Result<Line, Fault>
     ensures { result ≡ word_line time w.entry.line.now w.entry.place }
 {
-    address_line(
+    last_word(
         time,
-        ARRAY_BYTES - 1,
-        Reason::WordPastTheEnd,
+        |word| address_in(ARRAY_BYTES - 1, Reason::WordPastTheEnd, word),
         Request::Read16,
         w,
     )
@@ -106,11 +106,11 @@ pub fn word_line(time: Time, w: LineWord) -> Result<Line, Fault>
 fn oscillator_line(time: Time, mode: u8, module: bool, w: LineWord) -> Result<Line, Fault>
     ensures { result ≡ oscillator_line time mode «module» w.entry.line.now w.entry.place }
 {
-    let word = w.next();
-    let oscillator = oscillator_in(word)?;
-    ended(
-        Line::Call(time, Request::Environment(mode, module, oscillator)),
-        word,
+    last_word(
+        time,
+        oscillator_in,
+        |oscillator| Request::Environment(mode, module, oscillator),
+        w,
     )
 }
 
