@@ -13,7 +13,7 @@ mod taking;
 mod tally;
 
 use memory::{EMPTY, Memory};
-use row::Row;
+use row::{Kind, Row};
 use std::io::Read;
 use std::{fs, io};
 use taking::taken;
@@ -22,23 +22,26 @@ use tally::Tally;
 // The file with the list.
 const LIST: &str = "answers";
 
-// Reads one row and takes it; the list stops where no whole row is left, and then its end is missing.
-fn turn<R: Print, F: Read>(rt: &R, file: &mut F, t: &mut Tally, memory: &mut Memory) {
+// The next row, none where no whole row is left.
+fn next_row<F: Read>(file: &mut F) -> Option<Row> {
     let mut row = Row([0; row::BYTES]);
-    match file.read_exact(&mut row.0) {
-        Ok(()) => taken(rt, t, memory, &row),
-        Err(_) => t.reading = false,
-    }
+    file.read_exact(&mut row.0).ok()?;
+    Some(row)
 }
 
-// All rows. A proved loop has to end, and nothing says that a file does, so the turns are counted.
+// All rows up to the one that ends the list, or as far as there are any: then its end is missing. A proved loop has to end, and nothing says
+// that a file does, so the turns are counted.
 fn replay<R: Print, F: Read>(rt: &R, file: &mut F, memory: &mut Memory) -> Tally {
     let mut t = Tally::begun();
     for _ in 0..u32::MAX {
-        turn(rt, file, &mut t, memory);
-        if !t.reading {
+        let Some(row) = next_row(file) else {
+            break;
+        };
+        if row.kind() == Ok(Kind::End) {
+            t.ended(&memory.table, &row);
             break;
         }
+        taken(rt, &mut t, memory, &row);
     }
     t
 }

@@ -36,15 +36,10 @@ fn replayed(t: &mut Tally, memory: &mut Memory, row: &Row) {
     t.answered(same & left);
 }
 
-// One row: its group, its answer, or what it changes in the buffer.
+// One row before the last: its group, its answer, or what it changes in the buffer.
 pub fn taken<R: Print>(rt: &R, t: &mut Tally, memory: &mut Memory, row: &Row) {
-    let kind = row.kind();
-    if kind == Ok(Kind::End) {
-        t.ended(&memory.table, row);
-        return;
-    }
     t.counted(&memory.table, row);
-    match kind {
+    match row.kind() {
         Ok(Kind::Group) => t.opened(rt, row),
         Ok(Kind::Patch) => patch(memory, row),
         Ok(Kind::Cut) => t.length = row.size(),

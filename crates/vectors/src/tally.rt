@@ -5,8 +5,7 @@ use crate::sum::{ALL_BITS, Table, fed_bytes};
 
 #[derive(Clone, Copy, Default)]
 pub struct Tally {
-    // Whether rows are still to come, and whether the last row was as it has to be.
-    pub reading: bool,
+    // Whether the last row was as it has to be.
     pub whole: bool,
     pub sum: u32,
     pub rows: u64,
@@ -16,7 +15,7 @@ pub struct Tally {
     // Of the group that is being read, with the row of the first difference.
     pub group_answers: u64,
     pub group_differ: u64,
-    pub first: u64,
+    pub first: Option<u64>,
     // How many bytes of the buffer the next restoring reads.
     pub length: u32,
 }
@@ -24,7 +23,6 @@ pub struct Tally {
 impl Tally {
     pub fn begun() -> Tally {
         Tally {
-            reading: true,
             sum: ALL_BITS,
             ..Tally::default()
         }
@@ -40,16 +38,13 @@ impl Tally {
     pub fn answered(&mut self, same: bool) {
         self.group_answers = self.group_answers.wrapping_add(1);
         if !same {
-            if self.group_differ == 0 {
-                self.first = self.rows;
-            }
+            self.first = self.first.or(Some(self.rows));
             self.group_differ = self.group_differ.wrapping_add(1);
         }
     }
 
     // The last row: it has the number of rows and the sum of all bytes before that sum.
     pub fn ended(&mut self, table: &Table, row: &Row) {
-        self.reading = false;
         self.sum = fed_bytes(table, self.sum, &row.0[..row::SUMMED]) ^ ALL_BITS;
         self.rows = self.rows.wrapping_add(1);
         self.whole = self.rows == u64::from(row.size()) && self.sum == row.list_sum();
@@ -60,13 +55,12 @@ impl Tally {
         if self.groups == 0 {
             return;
         }
-        let _ = if self.group_differ == 0 {
-            println!(rt; "{} answers as recorded", self.group_answers)
-        } else {
-            println!(rt;
-                "{} answers, of which {} differ, the first in row {}",
-                self.group_answers, self.group_differ, self.first
-            )
+        let _ = match self.first {
+            None => println!(rt; "{} answers as recorded", self.group_answers),
+            Some(first) => println!(rt;
+                "{} answers, of which {} differ, the first in row {first}",
+                self.group_answers, self.group_differ
+            ),
         };
     }
 
@@ -77,6 +71,7 @@ impl Tally {
         self.differ = self.differ.wrapping_add(self.group_differ);
         self.group_answers = 0;
         self.group_differ = 0;
+        self.first = None;
     }
 
     // The next group: its line begins with its name.
