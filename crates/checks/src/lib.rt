@@ -55,9 +55,7 @@ pub fn legible(record: &[u8; RECORD_LEN]) -> bool
     let addresses: [u16; 2] = row_at(record, ADDRESSES);
     let instant: [u64; 2] = row_at(record, PENDING_INSTANT);
     let indices = row_at(record, INDICES);
-    head_known(&head)
-        & nothing_clear(head[9], addresses[1], Time(instant[0], instant[1]))
-        & slots_sound(&indices)
+    head_known(&head) & nothing_clear(head[9], addresses[1], instant.into()) & slots_sound(&indices)
 }
 
 // What it does: control, page and pending address.

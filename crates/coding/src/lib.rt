@@ -3,14 +3,16 @@
 
 pub mod state;
 
-ghost use Rattle.std.specs.Prelude.{◌≡◌, ◌++◌, length, take};
-ghost use Rattle.layout.specs.Layout.{record_length, encoded, decoded, head_of, addresses_of, halves_of, row_bytes};
+ghost use Rattle.std.specs.Prelude.{◌≡◌, ◌++◌, ◌+◌, ◌*◌, ◌<◌, length, take};
+ghost use Rattle.layout.specs.Layout.{record_length, encoded, decoded, head_of, addresses_of, halves_of, row, row_bytes};
 
-use crate::state::{addresses_of, halves_of, head_of, registers_of, time_of};
+use crate::state::{addresses_of, halves_of, head_of, registers_of};
 use flash::Flash;
 use layout::{ADDRESSES, HALVES, INDICES, LATCH, RECORD_LEN, SENSED};
 use registers::Registers;
+use rows::numbers::Number;
 use rows::{put_row, row_at};
+use std::array::from_fn;
 use time::Time;
 
 // The state that a record holds.
@@ -19,12 +21,17 @@ pub fn read(record: &[u8; RECORD_LEN]) -> Flash
 {
     let head = row_at(record, 0);
     let addresses = row_at(record, ADDRESSES);
-    let halves: [u64; 16] = row_at(record, HALVES);
+    let halves: [[u64; 2]; 8] = from_fn(
+        |k|
+            requires { k < 8 }
+            ensures { result ≡ row 2 8 (14 + 16 * k) «record».entry.now }
+        { row_at(record, HALVES + Time::WIDTH * k) },
+    );
     let latch = row_at(record, LATCH);
     let registers = registers_of(head, addresses, halves, latch);
     Flash {
         registers,
-        pulse_since: time_of(&halves, 12),
+        pulse_since: halves[6].into(),
         sensed: row_at(record, SENSED),
         indices: row_at(record, INDICES),
     }

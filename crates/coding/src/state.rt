@@ -1,6 +1,6 @@
 // The state as rows of numbers, and back.
-ghost use Rattle.std.specs.Prelude.{◌≡◌, ◌<◌, flat_map};
-ghost use Rattle.layout.specs.Layout.{supply_of, mode_of, head_of, addresses_of, halves_of, time_of, registers_of};
+ghost use Rattle.std.specs.Prelude.{◌≡◌, flat_map};
+ghost use Rattle.layout.specs.Layout.{supply_of, mode_of, head_of, addresses_of, halves_of, registers_of};
 
 use cell::PAGE;
 use control::{Mode, PendingSense, Supply};
@@ -77,26 +77,19 @@ pub fn halves_of(r: Registers, since: Time) -> [[u64; 2]; 8]
     ]
 }
 
-// The instant whose halves stand from a place on.
-pub fn time_of(halves: &[u64; 16], k: usize) -> Time
-    requires { k < 15 }
-    ensures { result ≡ time_of halves.now k }
-{
-    Time(halves[k], halves[k + 1])
-}
-
 #[tactic(auto, unfolding(layout::specs::Layout::registers_of))]
 pub fn registers_of(
     head: [u8; 10],
     addresses: [u16; 2],
-    halves: [u64; 16],
+    halves: [[u64; 2]; 8],
     latch: [u8; PAGE],
 ) -> Registers
-    ensures { result ≡ registers_of head addresses halves latch }
+    ensures { result ≡ registers_of head addresses (flat_map (λ halves. halves) halves) latch }
 {
+    let instants = halves.map(Time::from);
     let pending = PendingSense {
         address: addresses[1],
-        at: time_of(&halves, 14),
+        at: instants[7],
     };
     Registers {
         control: head[0],
@@ -110,12 +103,12 @@ pub fn registers_of(
         oscillator: head[6] == 1,
         mode: mode_of(head[7]),
         module: head[8] == 1,
-        ready: time_of(&halves, 0),
-        swe_ready: time_of(&halves, 2),
-        program_ready: time_of(&halves, 4),
-        erase_ready: time_of(&halves, 6),
-        recovery: time_of(&halves, 8),
-        verify_ready: time_of(&halves, 10),
+        ready: instants[0],
+        swe_ready: instants[1],
+        program_ready: instants[2],
+        erase_ready: instants[3],
+        recovery: instants[4],
+        verify_ready: instants[5],
         verify_pending: (head[9] == 1).then_some(pending),
     }
 }

@@ -74,7 +74,7 @@ pub fn call_at(calls: &[u64], i: usize) -> Asking
     let at = NUMBERS * i;
     Asking {
         request: request_in(calls[at]),
-        time: Time(calls[at + 1], calls[at + 2]),
+        time: [calls[at + 1], calls[at + 2]].into(),
     }
 }
 

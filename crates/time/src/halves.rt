@@ -10,3 +10,11 @@ impl From<Time> for [u64; 2] {
         [time.0, time.1]
     }
 }
+
+impl From<[u64; 2]> for Time {
+    ghost from_gives = { λ halves time. halves ≡ time.0 ∷ time.1 ∷ [] };
+
+    fn from(halves: [u64; 2]) -> Time {
+        Time(halves[0], halves[1])
+    }
+}

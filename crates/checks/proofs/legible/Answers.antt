@@ -1,28 +1,24 @@
 -- `checks::legible` meets its contract: what is read are the record's rows, but for the halves, of which it reads the last instant's.
 -- Assumes nothing.
+use Rattle.time.specs.declared.Time.{Time}
 use Rattle.settle.specs.Pages.{slots_sound}
 use Rattle.cell.specs.Cell.{at}
 use Prim.Native.Nat.{ℕ}
 use mathlib.Core.Bool.{Bool, ◌&&◌}
-use mathlib.Core.List.{List}
-use mathlib.Core.Path.{◌≡◌, refl}
+use mathlib.Core.List.{List, [], ◌∷◌}
+use mathlib.Core.Path.{◌≡◌, refl, sym}
 use Rattle.layout.specs.Layout.{row, time_of, head_known, nothing_clear, rows_in, legible}
 use Rattle.checks.proofs.legible.Goals as goal
 
--- the last instant of eight, by its halves
-last-whole : (xs : List ℕ) → at (row 2 8 126 xs) 0 ≡ at (row 16 8 14 xs) 14
-unfolding row
-last-whole xs = refl
-
-last-part : (xs : List ℕ) → at (row 2 8 126 xs) 1 ≡ at (row 16 8 14 xs) 15
-unfolding row
-last-part xs = refl
-
-told : (xs h a v n : List ℕ) (p q r : Bool) → p ≡ head_known h → q ≡ nothing_clear (at h 9) (at a 1) (time_of v 0) → r ≡ slots_sound n
-    → h ≡ row 10 1 0 xs → a ≡ row 2 2 10 xs → v ≡ row 2 8 126 xs → n ≡ row 384 2 274 xs → (p && q && r) ≡ legible (rows_in xs)
-unfolding legible rows_in
-told xs h a v n p q r ep eq er eh ea ev en = rw (ep, eq, er, eh, ea, ev, en, last-whole xs, last-part xs)
+told : (xs h a v n : List ℕ) (instant : Time) (p q r : Bool) → p ≡ head_known h → q ≡ nothing_clear (at h 9) (at a 1) instant → r ≡ slots_sound n
+    → h ≡ row 10 1 0 xs → a ≡ row 2 2 10 xs → v ≡ row 2 8 126 xs → n ≡ row 384 2 274 xs → v ≡ instant.0 ∷ instant.1 ∷ [] → (p && q && r) ≡ legible (rows_in xs)
+unfolding legible rows_in row
+told xs h a v n instant p q r ep eq er eh ea ev en ei =
+    let halves = rw ev at ei in
+    -- the last instant of eight, by its halves
+    let last : instant ≡ time_of (row 16 8 14 xs) 14 = λ i. record { 0 = at (sym halves i) 0; 1 = at (sym halves i) 1 } in
+    rw (ep, eq, er, eh, ea, en, last) refl
 
 pub returns : goal.returns
 returns c =
-    told _ _ _ _ _ _ _ _ c.head_known.ensures c.nothing_clear.ensures c.slots_sound.ensures c.row_at-head.ensures c.row_at-addresses.ensures c.row_at-instant.ensures c.row_at-indices.ensures
+    told _ _ _ _ _ _ _ _ _ c.head_known.ensures c.nothing_clear.ensures c.slots_sound.ensures c.row_at-head.ensures c.row_at-addresses.ensures c.row_at-instant.ensures c.row_at-indices.ensures c.into.ensures
