@@ -13,7 +13,7 @@ use course::{Course, LineSoFar, Manner, Place};
 use grammar::Line;
 use std::io;
 use std::rt::Files;
-use telling::reading::open;
+use telling::reading::opened;
 use telling::{Outlets, Told};
 
 mod complaints;
@@ -105,6 +105,6 @@ pub fn read_history<R: Files + Print + Eprint, S: Print>(
     ensures same { SameBench bench.old bench.new }
     ensures whole { IfOk result (λ after. ReadWhole manner (desk_on course bench.old) after (memory_at bench.new.memory) bench.new.events.now) }
 {
-    let mut file = open(outlets, path)?;
+    let mut file = opened(outlets, path)?;
     read_file(outlets, &mut file, path, manner, course, bench)
 }

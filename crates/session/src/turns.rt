@@ -20,8 +20,8 @@ fn can_step(run: Run) -> bool
     run.place.running | (run.place.at < run.have)
 }
 
-// A step where one can be taken, else a piece where the file may have one. A piece that can't be read changes nothing. A file and its path stay two, as only what is said of a failure
-// takes the second; so do backlog and piece, as steps work on the first and know of no file.
+// A step where one can be taken, else a piece where the file may have one. A piece that can't be read changes nothing. A file and its path
+// stay two, as only what is said of a failure takes the second; so do backlog and piece, as steps work on the first and know of no file.
 fn turn<R: Print + Eprint, F: Read, S: Print>(
     outlets: Outlets<R, S>,
     file: &mut F,

@@ -1,7 +1,7 @@
 // What the history begins with: an empty flash, an image, or a snapshot.
 ghost use Rattle.lent.specs.Views.{SameLent};
 
-use crate::reading::{open, read_full};
+use crate::reading::{opened, read_full};
 use crate::saying::{say_image_length, say_no_snapshot};
 use crate::{Outlets, Told};
 use cell::FLASH_SIZE;
@@ -35,7 +35,7 @@ fn load<'a, R: Files, S: Print>(
     path: &[u8],
     buffer: &'a mut [u8],
 ) -> Result<&'a [u8], Told> {
-    let mut file = open(outlets, path)?;
+    let mut file = opened(outlets, path)?;
     let n = read_full(&mut file, buffer);
     Ok(first(buffer, n))
 }

@@ -6,12 +6,15 @@ use std::io::Read;
 use std::rt::Files;
 use std::str::from_utf8;
 
-// A file that is open for reading, unless it can't be opened, which is then said. No file has a name that is no text.
-pub fn open<R: Files, S: Print>(outlets: Outlets<R, S>, path: &[u8]) -> Result<R::File, Told> {
-    let file = from_utf8(path)
-        .ok()
-        .and_then(|name| fs::open(outlets.rt, name).ok());
-    file.ok_or_else(|| {
+// A file that is open for reading, unless there is none that can be read.
+pub fn open<R: Files>(rt: &R, path: &[u8]) -> Option<R::File> {
+    let name = from_utf8(path).ok()?;
+    fs::open(rt, name).ok()
+}
+
+// The same, where that it can't be opened is said.
+pub fn opened<R: Files, S: Print>(outlets: Outlets<R, S>, path: &[u8]) -> Result<R::File, Told> {
+    open(outlets.rt, path).ok_or_else(|| {
         say_not_opened(outlets.says, path);
         Told
     })
