@@ -1,6 +1,6 @@
 // The ceilings of 256 cells, worked out once for all that they sense.
-ghost use Rattle.std.specs.Prelude.{◌≡◌, ◌+◌, ◌-◌, ◌*◌, ◌<◌, ◌≤◌};
-ghost use Rattle.cell.specs.Cell.{ceiling_of, ceiling_table, from_bits, tabulate, sensed_cell, sensed_byte, sensed_page, page_bytes, array_bytes, at};
+ghost use Rattle.std.specs.Prelude.{◌≡◌, ◌-◌, ◌<◌, ◌≤◌};
+ghost use Rattle.cell.specs.Cell.{ceiling_of, ceiling_table, tabulate, sensed_byte, sensed_page, page_bytes, array_bytes, at};
 
 use cell::classes::classes;
 use cell::{PAGE, PAGE_CELLS, Sense};
@@ -94,31 +94,16 @@ impl Ceilings {
         Ceilings { sense, limits }
     }
 
-    // What the cell k of the byte at an address senses, 1 or 0.
-    fn sense_bit(&self, address: usize, cells: &[u64; 8], k: usize) -> u8
-        requires { (address < array_bytes) × (k < 8) }
-        ensures { (result ≡ sensed_cell self.now.sense (8 * address + k) (at cells.now k)) × (result ≤ 1) }
-    {
-        u8::from(cells[k] < self.limits[(8 * address + k) % 256])
-    }
-
-    // What four cells of the byte at an address sense, from the cell k on.
-    fn sense_nibble(&self, address: usize, cells: &[u64; 8], k: usize) -> u8
-        requires { (address < array_bytes) × (k ≤ 4) }
-        ensures { (result ≡ from_bits 4 (λ j. sensed_cell self.now.sense (8 * address + (k + j)) (at cells.now (k + j)))) × (result < 16) }
-    {
-        self.sense_bit(address, cells, k)
-            + 2 * self.sense_bit(address, cells, k + 1)
-            + 4 * self.sense_bit(address, cells, k + 2)
-            + 8 * self.sense_bit(address, cells, k + 3)
-    }
-
     // The byte that the eight cells at an address sense.
     pub fn sense_byte(&self, address: usize, cells: &[u64; 8]) -> u8
         requires { address < array_bytes }
         ensures { result ≡ sensed_byte self.now.sense address (at cells.now) }
     {
-        self.sense_nibble(address, cells, 0) + 16 * self.sense_nibble(address, cells, 4)
+        let mut byte = 0;
+        for (k, cell) in cells.iter().enumerate() {
+            byte += u8::from(*cell < self.limits[(8 * address + k) % 256]) << k;
+        }
+        byte
     }
 
     // The 128 bytes that a page's cells sense; the page begins at `address`.
