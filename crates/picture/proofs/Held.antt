@@ -1,23 +1,18 @@
--- Charges of a page, one cell after the other.
+-- Charges of a page, one cell after the other: whether one of them is held, over the list of their places.
 -- Assumes nothing.
-use mathlib.Core.Path.{◌≡◌, sym, ◌∙◌}
-use mathlib.Core.Bool.{true, ◌||◌}
-use Prim.Native.Nat.{ℕ, suc, ◌+◌, ◌-◌, ◌<◌}
-use native.Mathlib.Omega.{arith}
+use mathlib.Core.Path.{◌≡◌, refl, ap, sym, ◌∙◌}
+use Prim.Native.Nat.{ℕ, zero, suc, ◌+◌}
+use native.Mathlib.Nat.{add-suc, add-zero}
+use native.Mathlib.Numerals.{add-one}
 use lib.Dec.{ltb}
-use borrow.Author.Tests.{lt-ltb}
+use Rattle.std.specs.List.{list_any, range_with_len}
 use Rattle.picture.specs.Marks.{holds_charge}
 
-pub holds-turn : (q : ℕ → ℕ) (start i : ℕ) → i < 1024
-    → holds_charge q (1024 - i) (start + i) ≡ (ltb 0 (q (start + i)) || holds_charge q (1024 - (i + 1)) (start + (i + 1)))
-unfolding holds_charge
-holds-turn q start i h =
-    let e : 1024 - i ≡ suc (1024 - (i + 1)) = omega arith in
-    let d : start + (i + 1) ≡ suc (start + i) = omega arith in
-    rw (e, d)
+module _ (q : ℕ → ℕ) (start : ℕ) where
+  holds-from : (n i : ℕ) → holds_charge q n (start + i) ≡ list_any (λ k. ltb 0 (q (start + k))) (range_with_len i n)
+  unfolding holds_charge
+  holds-from zero i = refl
+  holds-from (suc n) i = rw (add-one i, ← holds-from n (suc i), add-suc)
 
-pub holds-first : (q : ℕ → ℕ) (start i : ℕ) → i < 1024 → 0 < q (start + i) → true ≡ holds_charge q (1024 - i) (start + i)
-holds-first q start i h p = sym (holds-turn q start i h ∙ rw (lt-ltb 0 _ p))
-
--- what proofs of a loop over a page's cells use
-pub ruleset turns = (holds-first, holds-turn)
+  pub holds-any : (n : ℕ) → holds_charge q n start ≡ list_any (λ k. ltb 0 (q (start + k))) (range_with_len 0 n)
+  holds-any n = ap (holds_charge q n) (sym (add-zero start)) ∙ holds-from n 0

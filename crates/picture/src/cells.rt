@@ -8,20 +8,14 @@ ghost use Rattle.picture.specs.Marks.{holds_charge};
 use cell::PAGE_CELLS;
 use look::looking::View;
 
-// Whether a cell of a page holds a charge. A loop: with `any` a map takes up to three times as long.
-#[tactic(auto, using(crate::proofs::Held::turns))]
+// Whether a cell of a page holds a charge.
 pub fn holds_charge(view: &View, page: usize) -> bool
     requires { page < pages }
     ensures { result ≡ holds_charge (cell_at (cells_after view.now)) page_cells (page * page_cells) }
 {
-    // A copy of the references: the loop takes half the time.
+    // The references are copied and the places counted from 0: a map takes up to three times as long over those from `start` on, and up to
+    // five times without the copy too.
     let view = *view;
     let start = page * PAGE_CELLS;
-    for i in 0..PAGE_CELLS {
-        let charge = view.charge(start + i);
-        if 0 < charge {
-            return true;
-        }
-    }
-    false
+    (0..PAGE_CELLS).any(|i| 0 < view.charge(start + i))
 }
