@@ -14,20 +14,15 @@ const ROOM: usize = 65536;
 #[derive(Clone, Copy)]
 struct TooLong;
 
-// Argument i is put behind those before it, with a byte 0 after it. Answers whether there is such an argument.
-fn collect_one<R: Env + Eprint>(rt: &R, args: &mut Text, i: usize) -> Result<bool, TooLong> {
-    let mut word = [0u8; PATH_ROOM];
-    match rt.arg(i, &mut word) {
-        Ok(n) => {
-            args.put_text(first(&word, n));
-            args.put_byte(0);
-            if args.at < args.out.len() {
-                Ok(true)
-            } else {
-                Err(TooLong)
-            }
-        }
-        Err(FillError::NotPresent) => Ok(false),
+// Argument i, none behind the last.
+fn argument<'a, R: Env + Eprint>(
+    rt: &R,
+    i: usize,
+    room: &'a mut [u8],
+) -> Result<Option<&'a [u8]>, TooLong> {
+    match rt.arg(i, room) {
+        Ok(n) => Ok(Some(first(room, n))),
+        Err(FillError::NotPresent) => Ok(None),
         Err(FillError::TooLong) => {
             let _ = eprintln!(rt; "wipe: an argument: File name too long");
             Err(TooLong)
@@ -35,11 +30,17 @@ fn collect_one<R: Env + Eprint>(rt: &R, args: &mut Text, i: usize) -> Result<boo
     }
 }
 
-// The arguments after the program's own name.
+// The arguments after the program's own name, each with a byte 0 after it.
 fn collect<R: Env + Eprint>(rt: &R, args: &mut Text) -> Result<(), TooLong> {
+    let mut room = [0u8; PATH_ROOM];
     for i in 1..usize::MAX {
-        if !collect_one(rt, args, i)? {
+        let Some(word) = argument(rt, i, &mut room)? else {
             break;
+        };
+        args.put_text(word);
+        args.put_byte(0);
+        if args.at >= args.out.len() {
+            return Err(TooLong);
         }
     }
     Ok(())
