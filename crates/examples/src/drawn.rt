@@ -9,34 +9,17 @@ use text::Text;
 // The bytes of a picture: its head, then one for each cell.
 const HEAD: usize = 15;
 
-#[derive(Clone, Copy)]
-struct Pixels {
-    bright: u64,
-    sum: u64,
-}
-
-fn with_pixel(pixels: Pixels, shade: u8) -> Pixels {
-    Pixels {
-        bright: pixels.bright.saturating_add(u64::from(0 < shade)),
-        sum: pixels.sum.saturating_add(u64::from(shade)),
-    }
-}
-
-fn counted(bytes: &[u8]) -> Pixels {
-    let mut pixels = Pixels { bright: 0, sum: 0 };
-    for shade in bytes.iter().skip(HEAD) {
-        pixels = with_pixel(pixels, *shade);
-    }
-    pixels
-}
-
 fn tell_bytes<R: Print>(rt: &R, bytes: &[u8]) {
-    let pixels = counted(bytes);
+    let shades = bytes.get(HEAD..).unwrap_or(&[]);
+    let bright = shades.iter().filter(|shade| **shade != 0).count();
+    let sum = shades
+        .iter()
+        .fold(0u64, |sum, shade| sum.saturating_add(u64::from(*shade)));
     let mut room = [0u8; 128];
     let mut text = Text::new(&mut room);
     text.say(
         b"box.pgm: % bytes, % pixels not black, sum %\n",
-        &[bytes.len() as u64, pixels.bright, pixels.sum],
+        &[bytes.len() as u64, bright as u64, sum],
     );
     let _ = rt.write_all(text.as_bytes());
 }
