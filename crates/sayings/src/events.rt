@@ -1,7 +1,7 @@
-// An event in words. A word's kind is compared as a number, as in the definitions: it may be none of the kinds.
+// An event in words.
 ghost use Rattle.std.specs.Prelude.{◌≡◌};
 ghost use Rattle.text.specs.Says.{Says};
-ghost use Rattle.sayings.specs.Sayings.{last_address, end_said, happened, event_said};
+ghost use Rattle.sayings.specs.Sayings.{last_address, happened, event_said};
 
 use crate::times::instant;
 use ledger::event_word::{address_in, kind_in, value_in};
@@ -16,24 +16,21 @@ fn last_address(word: u64) -> u64
     (address_in(word) + value_in(word)).saturating_sub(1)
 }
 
-fn ended(text: &mut Text, word: u64)
-    ensures { Says (end_said word) text.old text.new }
-{
-    let template: &[u8] = if kind_in(word) == u64::from(EventKind::Completed) {
-        b": the pulse over $ to $ is completed\n"
-    } else {
-        b": the pulse over $ to $ is interrupted\n"
-    };
-    text.say(template, &[address_in(word), last_address(word)]);
-}
-
+// A word of no kind is told as a pulse that was interrupted.
 fn put_happened(text: &mut Text, word: u64)
     ensures { Says (happened word) text.old text.new }
 {
-    if kind_in(word) == u64::from(EventKind::Byte) {
-        text.say(b": byte $ becomes &\n", &[address_in(word), value_in(word)]);
-    } else {
-        ended(text, word);
+    let first = address_in(word);
+    match EventKind::try_from(kind_in(word)) {
+        Ok(EventKind::Byte) => text.say(b": byte $ becomes &\n", &[first, value_in(word)]),
+        Ok(EventKind::Completed) => text.say(
+            b": the pulse over $ to $ is completed\n",
+            &[first, last_address(word)],
+        ),
+        Ok(EventKind::Interrupted) | Err(_) => text.say(
+            b": the pulse over $ to $ is interrupted\n",
+            &[first, last_address(word)],
+        ),
     }
 }
 

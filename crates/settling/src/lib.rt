@@ -8,7 +8,7 @@ ghost use Rattle.cell.specs.Cell.{array_bytes, page_bytes, page_cells, pages, at
 ghost use Rattle.registers.specs.Calls.{ending_number};
 ghost use Rattle.settle.specs.Settling.{settled_by, spanned, changes, byte_kind, word, Left, range_bytes, range_end};
 ghost use Rattle.settle.specs.Views.{after_exposure, cells_at, SameCells};
-ghost use Rattle.settling.specs.Kinds.{kind_number};
+ghost use Rattle.settling.specs.Kinds.{kind_number, KindWithNumber};
 
 use cell::{PAGE, PAGE_CELLS, Sense};
 use registers::{Ending, Pulse};
@@ -42,6 +42,25 @@ impl From<Ending> for EventKind {
         match ending {
             Ending::Completed => EventKind::Completed,
             Ending::Interrupted => EventKind::Interrupted,
+        }
+    }
+}
+
+// A number that no kind of event word has.
+#[derive(Clone, Copy, Debug, PartialEq, Eq)]
+pub struct UnknownKind(pub u64);
+
+impl TryFrom<u64> for EventKind {
+    type Error = UnknownKind;
+
+    ghost try_from_gives = { KindWithNumber };
+
+    fn try_from(number: u64) -> Result<EventKind, UnknownKind> {
+        match number {
+            1 => Ok(EventKind::Byte),
+            2 => Ok(EventKind::Completed),
+            3 => Ok(EventKind::Interrupted),
+            _ => Err(UnknownKind(number)),
         }
     }
 }

@@ -21,13 +21,12 @@ fn word_block(word: u64) -> Option<usize>
     block_of(address_in(word) as usize / PAGE)
 }
 
-// One word is counted, if it is of the kind and its address lies in a block. Kinds are compared as numbers, as in the definitions: a word's
-// may be none of them.
+// One word is counted, if it is of the kind and its address lies in a block.
 #[tactic(auto, using(crate::proofs::Ends::one_word))]
 fn count_word(counts: &mut [u64; BLOCKS], kind: EventKind, word: u64)
     ensures { counts.new ≡ counted (kind_number kind) (word ∷ []) counts.old }
 {
-    if kind_in(word) == u64::from(kind) {
+    if EventKind::try_from(kind_in(word)) == Ok(kind) {
         if let Some(block) = word_block(word) {
             counts[block] = counts[block].saturating_add(1);
         }
