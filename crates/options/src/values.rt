@@ -6,32 +6,33 @@ ghost use Rattle.options.specs.Arguments.{number_below, block_named, address_nam
 ghost use Rattle.options.specs.Options.{time_in, block_in, address_in};
 
 use crate::{Parameter, Trouble};
-use cell::FLASH_SIZE;
+use cell::ARRAY_BYTES;
 use digits::hexadecimal;
 use moments::moment_in;
 use time::Time;
 use verdict::blocks::BLOCKS;
 
 // A hexadecimal number of so many digits, if it lies below a bound.
-fn number_below(bound: u64, digits: usize, word: &[u8]) -> Option<u64>
+fn number_below(bound: u16, digits: usize, word: &[u8]) -> Option<u16>
     ensures is { result ≡ number_below bound digits word.now }
     ensures below { IfSome result (λ n. n < bound) }
 {
-    hexadecimal(word, digits).ok().filter(|n| *n < bound)
+    let n = hexadecimal(word, digits).ok()?;
+    u16::try_from(n).ok().filter(|n| *n < bound)
 }
 
-fn block_named(word: &[u8]) -> Option<u64>
+fn block_named(word: &[u8]) -> Option<u16>
     ensures is { result ≡ block_named word.now }
     ensures below { IfSome result (λ n. n < blocks) }
 {
-    number_below(BLOCKS as u64, 1, word)
+    number_below(BLOCKS as u16, 1, word)
 }
 
-fn address_named(word: &[u8]) -> Option<u64>
+fn address_named(word: &[u8]) -> Option<u16>
     ensures is { result ≡ address_named word.now }
     ensures below { IfSome result (λ n. n < array_bytes) }
 {
-    number_below(FLASH_SIZE as u64, 4, word)
+    number_below(ARRAY_BYTES, 4, word)
 }
 
 // Whether an option can have a word.
@@ -58,14 +59,14 @@ pub fn complaint<'a>(p: Parameter, word: &'a [u8]) -> Trouble<'a>
     }
 }
 
-pub fn block_in(given: Option<&[u8]>) -> Option<u64>
+pub fn block_in(given: Option<&[u8]>) -> Option<u16>
     ensures is { result ≡ block_in given.entry }
     ensures below { IfSome result (λ n. n < blocks) }
 {
     given.and_then(block_named)
 }
 
-pub fn address_in(given: Option<&[u8]>) -> Option<u64>
+pub fn address_in(given: Option<&[u8]>) -> Option<u16>
     ensures is { result ≡ address_in given.entry }
     ensures below { IfSome result (λ n. n < array_bytes) }
 {
