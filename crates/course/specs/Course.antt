@@ -1,5 +1,5 @@
 -- What a run counts. Assumes nothing.
-use Rattle.std.specs.Prelude.{ℕ, Bool, false, not, List, [], ◌∷◌, Some}
+use Rattle.std.specs.Prelude.{ℕ, Bool, false, not, List, [], ◌∷◌, Some, None}
 use Rattle.time.specs.declared.Time.{Time}
 use Rattle.verdict.specs.declared.Tally.{Tally}
 use Rattle.verdict.specs.Pulses.{raised}
@@ -48,6 +48,10 @@ abbrev pub after_complaint : Bool → Complaint → Course → Course
 after_complaint goOn (Refused n r) c = after_refusal goOn c
 after_complaint goOn (Unseen n r) c = after_left_out goOn c
 after_complaint goOn (Wrong n f) c = after_left_out goOn c
+
+-- nothing is complained of, and what is said ends here
+abbrev pub quiet : Course → ℕ → Noted
+quiet c end = record { course = c; complaint = None; end = end }
 
 -- a complaint is all that is noted: nothing is said
 abbrev pub complained : Bool → Complaint → Course → Noted

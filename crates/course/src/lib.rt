@@ -5,7 +5,7 @@ ghost use Rattle.std.specs.Prelude.{◌≡◌, ◌≤◌, ◌<◌, true, false, 
 ghost use Rattle.grammar.specs.declared.Line.TheVariants.{Nothing};
 ghost use Rattle.history.specs.History.{calls_of};
 ghost use Rattle.course.specs.Bounds.{longest, room};
-ghost use Rattle.course.specs.Course.{with_calls, complained, begun_at};
+ghost use Rattle.course.specs.Course.{with_calls, quiet, complained, begun_at};
 
 use fields::Fault;
 use grammar::Line;
@@ -87,6 +87,19 @@ pub struct Place {
     pub ghost has_room: { running ≡ false → waiting < room },
     pub ghost none_run: { running ≡ false → next ≡ 0 },
     pub ghost none_due: { running ≡ false → due ≡ Nothing },
+}
+
+impl Noted {
+    // Nothing is complained of: the text that is said ends here.
+    pub fn quiet(course: Course, end: usize) -> Noted
+        ensures { result ≡ quiet course end }
+    {
+        Noted {
+            course,
+            complaint: None,
+            end,
+        }
+    }
 }
 
 impl Ongoing {

@@ -72,11 +72,7 @@ fn made(
         words,
         answer.value,
     );
-    Noted {
-        course: with_calls(course, 1, asking.time, counted),
-        complaint: None,
-        end: text.at,
-    }
+    Noted::quiet(with_calls(course, 1, asking.time, counted), text.at)
 }
 
 // A call came to an answer: it was made or refused.

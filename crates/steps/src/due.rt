@@ -16,11 +16,7 @@ pub fn do_due(ongoing: Ongoing, place: Place, memory: Lent, out: &mut [u8]) -> N
     let manner = ongoing.manner;
     let number = place.lines;
     match place.due {
-        Line::Nothing | Line::Call(_, _) => Noted {
-            course,
-            complaint: None,
-            end: 0,
-        },
+        Line::Nothing | Line::Call(_, _) => Noted::quiet(course, 0),
         Line::Look(time, looking) => look(course, manner, memory, number, time, looking, out),
         Line::Wrong(fault) => complained(course, manner.go_on, Complaint::Wrong(number, fault)),
     }

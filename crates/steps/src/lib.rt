@@ -43,11 +43,7 @@ pub fn step(
         run_on(ongoing, place, bench, backlog)
     } else {
         Stepped {
-            noted: Noted {
-                course: ongoing.course,
-                complaint: None,
-                end: 0,
-            },
+            noted: Noted::quiet(ongoing.course, 0),
             place: read_lines(place, piece, backlog),
         }
     }

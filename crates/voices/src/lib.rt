@@ -73,11 +73,7 @@ pub fn look(
     ensures { (events : List ℕ) → Leaves (looked manner line looking time (looked_refusal looking time (memory_in lent.entry)) (desk course (memory_in lent.entry) events)) result.course (memory_in lent.entry) events result.complaint out.old out.new result.end }
 {
     match look_at(lent, line, time, looking, out) {
-        Ok(end) => Noted {
-            course,
-            complaint: None,
-            end,
-        },
+        Ok(end) => Noted::quiet(course, end),
         Err(refusal) => complained(course, manner.go_on, Complaint::Unseen(line, refusal)),
     }
 }

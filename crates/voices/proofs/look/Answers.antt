@@ -5,7 +5,7 @@ use Rattle.voices.proofs.Sights.{left-seen, left-refused}
 use Rattle.voices.proofs.look.Goals as goal
 
 pub returns-in-Ok : goal.returns-in-Ok
-returns-in-Ok c = let a = c.args in left-seen a.manner _ _ _ _ _ _ _ _ c.in-Ok.ensures refl
+returns-in-Ok c = let a = c.args in rw c.quiet.ensures (left-seen a.manner _ _ _ _ _ _ _ _ c.in-Ok.ensures refl)
 
 pub returns-in-Err : goal.returns-in-Err
 returns-in-Err c =
