@@ -5,7 +5,7 @@ use lent::memory::Lent;
 use options::Options;
 use slices::first;
 use std::rt::Files;
-use summary::{Judged, report};
+use summary::report;
 use telling::files::{discarded, kept, picture_drafted, snapshot_drafted};
 use telling::saying::{say_report, say_unseen};
 use telling::{Outlets, Told};
@@ -48,15 +48,11 @@ pub fn finish<R: Files + Print, S: Print>(
 ) -> Result<(), Told> {
     // The time that was asked for, or that of the last call made.
     let time = options.at.unwrap_or(course.last);
-    let judged = Judged {
-        first: usize::from(options.judged.first),
-        pages: usize::from(options.judged.pages),
-    };
     let mut text = [0u8; REPORT];
     let end = report(
         &mut text,
         course.counts,
-        judged,
+        options.judged.into(),
         options.map,
         memory.lent(),
         time,

@@ -16,6 +16,7 @@ use crate::judging::put_judged;
 use crate::mapping::put_map;
 use crate::paging::put_pages;
 use cell::{FLASH_SIZE, PAGES};
+use control::Range;
 use lent::memory::Lent;
 use picture::see_marks;
 use refusal::Refusal;
@@ -36,6 +37,17 @@ mod series;
 pub struct Judged {
     pub first: usize,
     pub pages: usize,
+}
+
+impl From<Range> for Judged {
+    ghost from_gives = { λ range judged. (judged.first ≡ range.first) × (judged.pages ≡ range.pages) };
+
+    fn from(range: Range) -> Judged {
+        Judged {
+            first: usize::from(range.first),
+            pages: usize::from(range.pages),
+        }
+    }
 }
 
 // The report from what was counted, the image, and the map's marks where the map is asked for.
