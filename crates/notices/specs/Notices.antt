@@ -4,6 +4,8 @@ use Rattle.std.specs.Prelude.{ℕ, List, [], ◌∷◌}
 use Rattle.text.specs.Text.{bytes, filled}
 use Rattle.options.specs.declared.Trouble.{Trouble}
 use Rattle.options.specs.declared.Trouble.TheVariants.{NoSuchOption, NothingAfter, NoBlock, NoAddress, NoTime, NoHistory, TwoHistories, ImageAndRestore, BlockAndAddresses, HalfARange, FromAfterTo, Twice}
+use Rattle.notices.specs.declared.FileTrouble.{FileTrouble}
+use Rattle.notices.specs.declared.FileTrouble.TheVariants.{NotOpened, NotRead, NotWritten}
 
 -- the sentence on each trouble with the arguments
 abbrev pub template : Trouble → List ℕ
@@ -43,10 +45,12 @@ told trouble = filled (template trouble) (word_in trouble) []
 abbrev pub image_length : List ℕ → ℕ → List ℕ
 image_length word size = filled (bytes "wipe: @ has % bytes; an image has 49152\n") word (size ∷ [])
 
--- a file that can't be opened
-abbrev pub not_opened : List ℕ → List ℕ
-not_opened word = filled (bytes "wipe: @ could not be opened\n") word []
+-- the sentence on each trouble with a file
+abbrev pub file_template : FileTrouble → List ℕ
+file_template NotOpened = bytes "wipe: @ could not be opened\n"
+file_template NotRead = bytes "wipe: @ could not be read\n"
+file_template NotWritten = bytes "wipe: @ could not be written\n"
 
--- a file that can't be written
-abbrev pub not_written : List ℕ → List ℕ
-not_written word = filled (bytes "wipe: @ could not be written\n") word []
+-- what is wrong with a file
+abbrev pub file_told : FileTrouble → List ℕ → List ℕ
+file_told trouble path = filled (file_template trouble) path []

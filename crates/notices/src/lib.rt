@@ -2,13 +2,21 @@
 #![tactic(auto)]
 
 ghost use Rattle.std.specs.Prelude.{◌≡◌};
-ghost use Rattle.notices.specs.Notices.{template, word_in, told, image_length, not_opened, not_written};
+ghost use Rattle.notices.specs.Notices.{template, word_in, told, file_template, file_told, image_length};
 ghost use Rattle.text.specs.Says.{Says};
 
 use options::Trouble;
 use text::Text;
 
 pub mod help;
+
+// What can't be done with a file.
+#[derive(Clone, Copy, Debug, PartialEq, Eq)]
+pub enum FileTrouble {
+    NotOpened,
+    NotRead,
+    NotWritten,
+}
 
 // The sentence on each trouble with the arguments, with @ for the word that it lies in.
 fn template(trouble: Trouble<'_>) -> &'static [u8]
@@ -63,14 +71,20 @@ pub fn image_length(text: &mut Text, word: &[u8], size: u64)
     text.fill(b"wipe: @ has % bytes; an image has 49152\n", word, &[size]);
 }
 
-pub fn not_opened(text: &mut Text, word: &[u8])
-    ensures { Says (not_opened word.now) text.old text.new }
+// The sentence on each trouble with a file, with @ for its path.
+fn file_template(trouble: FileTrouble) -> &'static [u8]
+    ensures { result.now ≡ file_template trouble }
 {
-    text.say_word(b"wipe: @ could not be opened\n", word);
+    match trouble {
+        FileTrouble::NotOpened => b"wipe: @ could not be opened\n",
+        FileTrouble::NotRead => b"wipe: @ could not be read\n",
+        FileTrouble::NotWritten => b"wipe: @ could not be written\n",
+    }
 }
 
-pub fn not_written(text: &mut Text, word: &[u8])
-    ensures { Says (not_written word.now) text.old text.new }
+// Says what is wrong with a file.
+pub fn file_trouble(text: &mut Text, trouble: FileTrouble, path: &[u8])
+    ensures { Says (file_told trouble path.now) text.old text.new }
 {
-    text.say_word(b"wipe: @ could not be written\n", word);
+    text.say_word(file_template(trouble), path);
 }

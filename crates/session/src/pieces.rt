@@ -7,10 +7,11 @@ ghost use Rattle.session.specs.Going.{WithPiece, Moves};
 use crate::Piece;
 use crate::run::Run;
 use course::memory::Backlog;
+use notices::FileTrouble;
 use std::io::Read;
 use steps::reading::close;
 use telling::Told;
-use telling::saying::say_not_read;
+use telling::saying::say_file_trouble;
 
 // A new piece of so many bytes.
 fn with_piece(run: Run, have: usize) -> Run
@@ -49,10 +50,7 @@ pub fn next_piece<F: Read, S: Print>(
 {
     let bytes: &mut [u8] = piece;
     match file.read(bytes) {
-        Err(_) => {
-            say_not_read(says, path);
-            Err(Told)
-        }
+        Err(_) => Err(say_file_trouble(says, FileTrouble::NotRead, path)),
         Ok(0) => Ok(closed(run, backlog)),
         Ok(got) => Ok(with_piece(run, got)),
     }

@@ -1,9 +1,10 @@
 // The files that a run writes: the state that it reached, and a picture of all cells. Both are drafts until each is whole.
-use crate::saying::say_not_written;
+use crate::saying::say_file_trouble;
 use crate::{Outlets, Told};
 use cell::CELLS;
 use drafts::{discard, draft, keep};
 use lent::memory::Lent;
+use notices::FileTrouble;
 use picture::see_shades;
 use report::picture_head;
 use save::write_snapshot;
@@ -17,8 +18,7 @@ const HEAD: usize = 32;
 
 // It is said that a file can't be written.
 fn unwritten<S: Print>(says: &S, path: &[u8]) -> Told {
-    say_not_written(says, path);
-    Told
+    say_file_trouble(says, FileTrouble::NotWritten, path)
 }
 
 // A file that is asked for is drafted, or it is said that it can't be written.

@@ -1,7 +1,8 @@
 // Sentences are put together in a small slice and written at once.
+use crate::Told;
 use faults::fault;
 use notices::help::help;
-use notices::{image_length, not_opened, not_written};
+use notices::{FileTrouble, file_trouble, image_length};
 use reason::Reason;
 use refusals::{look_refusal, no_snapshot, refusal, unseen};
 use text::Text;
@@ -70,23 +71,14 @@ pub fn say_report<R: Print>(rt: &R, report: &[u8]) {
 
 // ---- files
 
-pub fn say_not_opened<S: Print>(to: &S, path: &[u8]) {
-    say(to, |text| not_opened(text, path));
-}
-
-pub fn say_not_written<S: Print>(to: &S, path: &[u8]) {
-    say(to, |text| not_written(text, path));
+// What is wrong with a file is said.
+pub fn say_file_trouble<S: Print>(to: &S, trouble: FileTrouble, path: &[u8]) -> Told {
+    say(to, |text| file_trouble(text, trouble, path));
+    Told
 }
 
 pub fn say_image_length<S: Print>(to: &S, path: &[u8], length: u64) {
     say(to, |text| image_length(text, path, length));
-}
-
-pub fn say_not_read<S: Print>(to: &S, path: &[u8]) {
-    say(
-        to,
-        |text| text.say_word(b"wipe: @ could not be read\n", path),
-    );
 }
 
 pub fn say_no_snapshot<S: Print, N: Into<u32>>(to: &S, path: &[u8], why: N) {
