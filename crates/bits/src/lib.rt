@@ -1,8 +1,9 @@
 // Control's bits and the registers' addresses, and the values that writes store.
 #![tactic(auto)]
 
-ghost use Rattle.std.specs.Prelude.{◌≡◌, ◌<◌};
-ghost use Rattle.control.specs.Bits.{has, low, verifies, falls, flag, control_value, erase_after, erase_value, setup};
+ghost use Rattle.std.specs.Prelude.{◌≡◌, ◌<◌, ◌&&◌, cond, eqb, Some, None};
+ghost use Rattle.cell.specs.declared.Direction.TheVariants.{Program, Erase};
+ghost use Rattle.control.specs.Bits.{PSU, ESU, P, E, has, low, verifies, falls, flag, control_value, erase_after, erase_value, setup};
 
 use cell::Direction;
 
@@ -53,6 +54,17 @@ pub fn verifies(v: u8) -> bool
     ensures { result ≡ verifies v }
 {
     (low(v) == PV) | (low(v) == EV)
+}
+
+// The pulse that control asks for: P alone with PSU, or E alone with ESU.
+pub fn opened_by(control: u8) -> Option<Direction>
+    ensures { result ≡ cond (eqb (low control) P && has control PSU) (Some Program) (cond (eqb (low control) E && has control ESU) (Some Erase) None) }
+{
+    match low(control) {
+        P if has(control, PSU) => Some(Direction::Program),
+        E if has(control, ESU) => Some(Direction::Erase),
+        _ => None,
+    }
 }
 
 // Whether the bit of value d is set in `old` and not in `new`.

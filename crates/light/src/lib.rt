@@ -8,7 +8,7 @@ ghost use Rattle.listing.specs.Held.{Onward};
 ghost use Rattle.light.specs.Writes.{lit, opens, is_light, since_after};
 
 use crate::writing::{settings_of, with_settings, write};
-use bits::{E, ESU, FENR, P, PSU, SWE, has, low};
+use bits::{FENR, SWE, has, opened_by};
 use flash::Flash;
 use listing::{KIND, NUMBERS, first_in, second_in};
 use registers::Registers;
@@ -39,10 +39,7 @@ pub struct Ahead {
 fn opens(may: bool, control: u8) -> bool
     ensures { result ≡ opens may control }
 {
-    let low = low(control);
-    let program = (low == P) & has(control, PSU);
-    let erase = (low == E) & has(control, ESU);
-    may & has(control, SWE) & (program | erase)
+    may & has(control, SWE) & opened_by(control).is_some()
 }
 
 #[tactic(auto, unfolding(crate::specs::Writes::is_light))]

@@ -3,7 +3,7 @@ ghost use Rattle.std.specs.Prelude.{◌≡◌};
 ghost use Rattle.registers.specs.Pulses.{ready_for, program_pulse, erase_pulse, may_pulse, powered, pulse, normal, tripped, protect, read8, read16};
 
 use crate::{Pulse, Registers};
-use bits::{E, ESU, P, PSU, SWE, has, low};
+use bits::{SWE, has, opened_by};
 use cell::{Direction, PAGE_BYTES};
 use control::Supply;
 use control::blocks::erase_range;
@@ -62,18 +62,14 @@ impl Registers {
     pub fn pulse(self) -> Option<Pulse>
         ensures { result ≡ pulse self }
     {
-        let control = self.control;
-        let low = low(control);
-        if self.powered() {
-            if (low == P) & has(control, PSU) {
-                return Some(self.program_pulse());
-            }
-            if (low == E) & has(control, ESU) {
-                return Some(self.erase_pulse());
-            }
+        if !self.powered() {
             return None;
         }
-        None
+        match opened_by(self.control) {
+            Some(Direction::Program) => Some(self.program_pulse()),
+            Some(Direction::Erase) => Some(self.erase_pulse()),
+            None => None,
+        }
     }
 
     // Whether reading is normal.
