@@ -1,33 +1,16 @@
 // Light calls, register writes without an open pulse, run one after the other on the few registers that they change.
 #![tactic(auto)]
 
-pub mod writing;
-
 ghost use Rattle.std.specs.Prelude.{◌≡◌, cond, ◌*◌, ◌≤◌, length};
 ghost use Rattle.listing.specs.Held.{Onward};
 ghost use Rattle.light.specs.Writes.{lit, opens, is_light, since_after};
 
-use crate::writing::{settings_of, with_settings, write};
+use access::{Settings, settings_of, with_settings, write};
 use bits::{FENR, SWE, has, opened_by};
 use flash::Flash;
 use listing::{KIND, NUMBERS, first_in, second_in};
-use registers::Registers;
 use time::Time;
 use time::accepted::Accepted;
-
-// The registers that a register write can change, but for a pending sense.
-#[derive(Clone, Copy)]
-pub struct Settings {
-    pub control: u8,
-    pub erase: u8,
-    pub enabled: bool,
-    pub power_down_disabled: bool,
-    pub swe_ready: Time,
-    pub program_ready: Time,
-    pub erase_ready: Time,
-    pub recovery: Time,
-    pub verify_ready: Time,
-}
 
 // Where a run of light calls comes to: the state, and the first call that is not done.
 #[derive(Clone, Copy)]
