@@ -51,6 +51,6 @@ impl Range {
     {
         let first = usize::from(self.first);
         let end = first + usize::from(self.pages);
-        (first <= page) & (page < end)
+        (first..end).contains(&page)
     }
 }
