@@ -11,7 +11,6 @@ ghost use Rattle.listing.specs.Calls.{first_in, second_in, request_by, request_i
 pub use lent::Asking;
 use lent::{Answer, Request};
 use refusal::Refusal;
-use time::Time;
 
 // Numbers of a call in a list: what it asks for, seconds, fraction.
 pub const NUMBERS: usize = 3;
