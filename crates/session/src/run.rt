@@ -4,8 +4,9 @@ ghost use Rattle.session.specs.Pieces.{piece_bytes};
 
 use course::{Course, Place};
 
-// How many bytes the piece has, and whether the file may have more. Once it has no more, its last piece is passed, and when calls are run no
-// more, none waits. `have` stands here and not with the piece, since definitions go by a run, a value that is copied, and a piece is memory.
+// How many bytes the piece has, and whether the file may have more. Once it has no more, its last piece is passed, and when calls are run
+// no more, none waits. `have` stands here and not with the piece, since definitions go by a run, a value that is copied, and a piece is
+// memory.
 #[derive(Clone, Copy)]
 pub struct Run {
     pub course: Course,
