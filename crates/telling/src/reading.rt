@@ -15,8 +15,11 @@ pub fn open<R: Files>(rt: &R, path: &[u8]) -> Option<R::File> {
 
 // The same, where that it can't be opened is said.
 pub fn opened<R: Files, S: Print>(outlets: Outlets<R, S>, path: &[u8]) -> Result<R::File, Told> {
-    open(outlets.rt, path)
-        .ok_or_else(|| say_file_trouble(outlets.says, FileTrouble::NotOpened, path))
+    open(outlets.rt, path).ok_or_else(|| say_file_trouble(
+        outlets.says,
+        FileTrouble::NotOpened,
+        path,
+    ))
 }
 
 // Reads until the buffer is full, the file ends or a read fails, and answers how many bytes stand at the buffer's start.
