@@ -180,7 +180,7 @@ fn put_back(settings: Settings, registers: Registers) -> Registers
     }
 }
 
-// Writing F020.
+// Writing F020, by itself: as part of a write by its address, `write` does it.
 pub fn write_control(registers: Registers, value: u8, now: Accepted) -> Registers
     ensures { result ≡ control_set (control_value value) now.time registers }
 {

@@ -1,9 +1,8 @@
 // Control's bits and the registers' addresses, and the values that writes store.
 #![tactic(auto)]
 
-ghost use Rattle.std.specs.Prelude.{◌≡◌, ◌<◌, ◌&&◌, cond, eqb, Some, None};
-ghost use Rattle.cell.specs.declared.Direction.TheVariants.{Program, Erase};
-ghost use Rattle.control.specs.Bits.{PSU, ESU, P, E, has, low, verifies, falls, flag, control_value, erase_after, erase_value, setup};
+ghost use Rattle.std.specs.Prelude.{◌≡◌, ◌<◌};
+ghost use Rattle.control.specs.Bits.{has, low, verifies, opened_by, falls, flag, control_value, erase_after, erase_value, setup};
 
 use cell::Direction;
 
@@ -58,7 +57,7 @@ pub fn verifies(v: u8) -> bool
 
 // The pulse that control asks for: P alone with PSU, or E alone with ESU.
 pub fn opened_by(control: u8) -> Option<Direction>
-    ensures { result ≡ cond (eqb (low control) P && has control PSU) (Some Program) (cond (eqb (low control) E && has control ESU) (Some Erase) None) }
+    ensures { result ≡ opened_by control }
 {
     match low(control) {
         P if has(control, PSU) => Some(Direction::Program),

@@ -1,5 +1,5 @@
-// The cells of the array: their classes. What they sense and what a pulse does to their charges is in the definitions; the functions are the
-// crates `sensing` and `charging`.
+// The cells of the array: their classes. What they sense and what a pulse does to their charges is in the definitions; the functions are
+// the crates `sensing` and `charging`.
 #![tactic(auto)]
 
 pub mod classes;

@@ -28,8 +28,8 @@ fn amount(direction: Direction, lasting: Duration) -> u64
     rate(direction).saturating_mul(lasting.1)
 }
 
-// A cell's charge moved by an amount; `latched` is the cell's latched bit. From which charge on a cell gets full depends on the amount alone,
-// so that a loop over cells works it out once.
+// A cell's charge moved by an amount; `latched` is the cell's latched bit. From which charge on a cell gets full depends on the amount
+// alone, so that a loop over cells works it out once.
 #[tactic(auto, unfolding(cell::specs::Cell::moved))]
 fn moved(direction: Direction, latched: u8, amount: u64, q: u64) -> u64
     ensures { result ≡ moved direction latched amount q }
@@ -81,8 +81,8 @@ pub fn first_charge(stored: u8) -> u64
     if stored == 1 { 0 } else { FULL }
 }
 
-// A page's first charges, from its stored bytes: each is read once for its eight cells. Here and below a loop over cells, each by its bit of
-// the page, takes up to half as long again.
+// A page's first charges, from its stored bytes: each is read once for its eight cells. Here and below a loop over cells, each by its bit
+// of the page, takes up to half as long again.
 fn open(cells: &mut [u64; PAGE_CELLS], bytes: &[u8; PAGE])
     ensures { cells.new ≡ opened_page bytes.now cells.old }
 {
@@ -111,8 +111,8 @@ fn charge(
     }
 }
 
-// A page takes a slot of the charge store. Here and below the store is split and no range of it taken: what is written to the first chunk of
-// a range would not be known.
+// A page takes a slot of the charge store. Here and below the store is split and no range of it taken: what is written to the first chunk
+// of a range would not be known.
 pub fn open_slot(charges: &mut [u64], slot: usize, bytes: &[u8; PAGE])
     requires { (length charges.old ≡ array_cells) × (slot < pages) }
     ensures { charges.new ≡ opened_slot slot bytes.now charges.old }

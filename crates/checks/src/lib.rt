@@ -15,7 +15,8 @@ use rows::numbers::Number;
 use rows::row_at;
 use time::Time;
 
-// The most that each single byte of a state can be: those of flags, of the supply, of the mode and of the option are few, the others may be any.
+// The most that each single byte of a state can be: those of flags, of the supply, of the mode and of the option are few, the others may be
+// any.
 pub const LIMITS: [u8; 10] = [255, 1, 255, 1, 1, LAST_SUPPLY, 1, LAST_MODE, 1, 1];
 
 // Whether each byte is at most its limit.

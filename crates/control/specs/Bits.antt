@@ -1,6 +1,6 @@
 -- The registers' addresses and bits, and the values that writes store. Document 01, "Registers and latch".
 -- Assumes nothing.
-use Rattle.std.specs.Prelude.{ℕ, ◌+◌, ◌/◌, ◌%◌, Bool, cond, not, ◌&&◌, ◌||◌, leb, eqb}
+use Rattle.std.specs.Prelude.{ℕ, ◌+◌, ◌/◌, ◌%◌, Bool, cond, not, ◌&&◌, ◌||◌, leb, eqb, Option, Some, None}
 use Rattle.cell.specs.Cell.{bit}
 use Rattle.cell.specs.declared.Direction.{Direction}
 use Rattle.cell.specs.declared.Direction.TheVariants.{Program, Erase}
@@ -58,6 +58,10 @@ low v = v % 16
 -- PV alone or EV alone
 abbrev pub verifies : ℕ → Bool
 verifies v = eqb (low v) PV || eqb (low v) EV
+
+-- the pulse that control asks for: P alone with PSU, or E alone with ESU
+abbrev pub opened_by : ℕ → Option Direction
+opened_by v = cond (eqb (low v) P && has v PSU) (Some Program) (cond (eqb (low v) E && has v ESU) (Some Erase) None)
 
 -- whether the bit of value d falls or rises as control goes from old to new
 abbrev pub falls : ℕ → ℕ → ℕ → Bool

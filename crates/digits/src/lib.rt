@@ -11,7 +11,8 @@ pub enum NoNumber {
     NotDigits,
 }
 
-// A number of 64 bits, by its digits in a base. `from_str_radix` would also take a `+` in front, and wants a text, where a word is any bytes.
+// A number of 64 bits, by its digits in a base. `from_str_radix` would also take a `+` in front, and wants a text, where a word is any
+// bytes.
 #[tactic(auto, using(crate::proofs::Steps::steps))]
 fn number_in(word: &[u8], base: u32) -> Result<u64, NoNumber>
     requires { (2 ≤ base) × (base ≤ 16) }

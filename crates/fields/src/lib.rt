@@ -104,7 +104,8 @@ pub fn bit_in(w: LineWord) -> Result<u8, Fault>
     Ok(number_below(1, 8, Reason::NoBitNumber, Reason::NoBitNumber, w)? as u8)
 }
 
-// A mode and two supplies have each a table, a type and a reason of their own. One function over them would have three parameters for one line.
+// A mode and two supplies have each a table, a type and a reason of their own. One function over them would have three parameters for one
+// line.
 #[tactic(auto, unfolding(crate::specs::Fields::mode_in))]
 pub fn mode_in(w: LineWord) -> Result<u8, Fault>
     ensures { result ≡ mode_in w.entry.line.now w.entry.place }

@@ -1,5 +1,5 @@
-// A line of a history is parsed, and its call is put among those that wait for the replay. A list of any length comes over the C interface as
-// three numbers a call, so that its bounds are clauses.
+// A line of a history is parsed, and its call is put among those that wait for the replay. A list of any length comes over the C interface
+// as three numbers a call, so that its bounds are clauses.
 #![tactic(auto)]
 
 ghost use Rattle.std.specs.Prelude.{◌≡◌, [], ◌∷◌, ◌+◌, ◌*◌, ◌≤◌, length};

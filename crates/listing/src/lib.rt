@@ -1,5 +1,5 @@
-// Calls as numbers: kind × 2^24 + first × 2^8 + second. A list of any length comes over the C interface as three numbers a call, so that its
-// bounds are clauses.
+// Calls as numbers: kind × 2^24 + first × 2^8 + second. A list of any length comes over the C interface as three numbers a call, so that
+// its bounds are clauses.
 #![tactic(auto)]
 
 ghost use Rattle.std.specs.Prelude.{◌≡◌, ◌+◌, ◌*◌, ◌<◌, length};

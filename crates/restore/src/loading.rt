@@ -85,8 +85,8 @@ pub fn flash_at(state: StateAt, indices: [u16; PAGES]) -> Flash
     }
 }
 
-// The charges of so many pages go to their slots; the other slots keep their numbers. It promises so for any bytes in which the pages stand,
-// also where other fields are refused.
+// The charges of so many pages go to their slots; the other slots keep their numbers. It promises so for any bytes in which the pages
+// stand, also where other fields are refused.
 pub fn load_pages(bytes: &[u8], count: usize, charges: &mut [u64])
     requires { (count ≤ pages) × (page_at count ≤ length bytes.now) × (length charges.old ≡ array_cells) }
     ensures { charges.new ≡ sets charges.old 0 (pages_cells count bytes.now pages_place) }

@@ -93,8 +93,8 @@ fn read_file<R: Print + Eprint, F: io::Read, S: Print>(
     whole(run)
 }
 
-// Runs the history in a file on the flash in lent memory, and gives the course of the run if the file was read whole and all calls in it were run. What
-// it says goes to standard output, its complaints to the writer that is lent for them.
+// Runs the history in a file on the flash in lent memory, and gives the course of the run if the file was read whole and all calls in it
+// were run. What it says goes to standard output, its complaints to the writer that is lent for them.
 pub fn read_history<R: Files + Print + Eprint, S: Print>(
     outlets: Outlets<R, S>,
     path: &[u8],

@@ -1,5 +1,5 @@
-// The file comes in pieces. That it may have more and that no call is run is asked of private functions behind one test: a type that says it
-// would be taken apart by the next `match`.
+// The file comes in pieces. That it may have more and that no call is run is asked of private functions behind one test: a type that says
+// it would be taken apart by the next `match`.
 ghost use Rattle.std.specs.Prelude.{◌≡◌, true, false, ◌≤◌, IfOk, OnErr};
 ghost use Rattle.session.specs.Pieces.{piece_bytes};
 ghost use Rattle.session.specs.Going.{WithPiece, Moves};

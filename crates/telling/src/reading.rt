@@ -13,7 +13,7 @@ pub fn open<R: Files>(rt: &R, path: &[u8]) -> Option<R::File> {
     fs::open(rt, name).ok()
 }
 
-// The same, where that it can't be opened is said.
+// The same; that a file can't be opened is said.
 pub fn opened<R: Files, S: Print>(outlets: Outlets<R, S>, path: &[u8]) -> Result<R::File, Told> {
     open(outlets.rt, path).ok_or_else(|| say_file_trouble(
         outlets.says,

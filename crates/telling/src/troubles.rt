@@ -3,7 +3,7 @@ use crate::saying;
 use notices::trouble;
 use options::Trouble;
 
-// It is said.
+// What is wrong with the arguments is said.
 pub fn complain<S: Print>(to: &S, wrong: Trouble) {
     saying::say(to, |text| trouble(text, wrong));
 }

@@ -1,6 +1,6 @@
 // Text put together in a lent slice, from templates with marks for numbers and a word. What does not fit is cut off at the
-// slice's end, so no function asks for room. `write!` would promise less: std's clauses on it speak of an `Ok` only, and none says when one comes;
-// it also wants text, and a word of a history may be any bytes.
+// slice's end, so no function asks for room. `write!` would promise less: std's clauses on it speak of an `Ok` only, and none says when one
+// comes; it also wants text, and a word of a history may be any bytes.
 #![tactic(auto)]
 
 ghost use Rattle.std.specs.Prelude.{◌≡◌, [], get_or, take};

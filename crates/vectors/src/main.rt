@@ -29,8 +29,8 @@ fn next_row<F: Read>(file: &mut F) -> Option<Row> {
     Some(row)
 }
 
-// All rows up to the one that ends the list, or as far as there are any: then its end is missing. A proved loop has to end, and nothing says
-// that a file does, so the turns are counted.
+// All rows up to the one that ends the list, or as far as there are any: then its end is missing. A proved loop has to end, and nothing
+// says that a file does, so the turns are counted.
 fn replay<R: Print, F: Read>(rt: &R, file: &mut F, memory: &mut Memory) -> Tally {
     let mut t = Tally::begun();
     for _ in 0..u32::MAX {

@@ -1,5 +1,5 @@
-// Legible pages of an image: those with a byte that does not read FF. A page and a stretch of pages may be of an image of any length, which an
-// array would not allow, so that their bounds are clauses.
+// Legible pages of an image: those with a byte that does not read FF. A page and a stretch of pages may be of an image of any length, which
+// an array would not allow, so that their bounds are clauses.
 ghost use Rattle.std.specs.Prelude.{◌≡◌, ◌+◌, ◌*◌, ◌<◌, ◌≤◌, length};
 ghost use Rattle.cell.specs.Cell.{page_bytes, array_bytes};
 ghost use Rattle.verdict.specs.Blocks.{blocks, block_range, pages_touched};
