@@ -32,13 +32,12 @@ fn last_word<T, R: FnOnce(LineWord) -> Result<T, Fault>, F: FnOnce(T) -> Request
     time: Time,
     read: R,
     request: F,
-    w: LineWord,
+    word: LineWord,
 ) -> Result<Line, Fault>
     requires reader { R.IsAlwaysCallable read }
     requires request { F.IsAlwaysCallable request }
-    ensures { (word : LineWord) × (word.line.now ≡ w.entry.line.now) × (word.place ≡ next w.entry.line.now w.entry.place) × ((meant : Result T Fault) × R.post read word meant × MatchResult meant (λ a. (r : Request) × F.post request a r × (result ≡ ended (Call time r) word.line.now word.place)) (λ f. result ≡ Err f)) }
+    ensures { (meant : Result T Fault) × R.post read word.entry meant × MatchResult meant (λ a. (r : Request) × F.post request a r × (result ≡ ended (Call time r) word.entry.line.now word.entry.place)) (λ f. result ≡ Err f) }
 {
-    let word = w.next();
     ended(Line::Call(time, request(read(word)?)), word)
 }
 
@@ -50,7 +49,7 @@ fn value_line(time: Time, register: u16, w: LineWord) -> Result<Line, Fault>
         time,
         |word| value_in(register, word),
         |value| Request::WriteRegister(register, value),
-        w,
+        w.next(),
     )
 }
 
@@ -66,7 +65,12 @@ pub fn write_line(time: Time, w: LineWord) -> Result<Line, Fault>
 fn byte_line(time: Time, address: u16, w: LineWord) -> Result<Line, Fault>
     ensures { result ≡ byte_line time address w.entry.line.now w.entry.place }
 {
-    last_word(time, byte_in, |value| Request::Write8(address, value), w)
+    last_word(
+        time,
+        byte_in,
+        |value| Request::Write8(address, value),
+        w.next(),
+    )
 }
 
 #[tactic(auto, unfolding(crate::specs::Grammar::data_line))]
@@ -86,7 +90,7 @@ pub fn read_line(time: Time, w: LineWord) -> Result<Line, Fault>
         time,
         |word| address_in(ARRAY_BYTES, Reason::PastTheEnd, word),
         Request::Read8,
-        w,
+        w.next(),
     )
 }
 
@@ -98,7 +102,7 @@ pub fn word_line(time: Time, w: LineWord) -> Result<Line, Fault>
         time,
         |word| address_in(ARRAY_BYTES - 1, Reason::WordPastTheEnd, word),
         Request::Read16,
-        w,
+        w.next(),
     )
 }
 
@@ -110,7 +114,7 @@ fn oscillator_line(time: Time, mode: u8, module: bool, w: LineWord) -> Result<Li
         time,
         oscillator_in,
         |oscillator| Request::Environment(mode, module, oscillator),
-        w,
+        w.next(),
     )
 }
 
