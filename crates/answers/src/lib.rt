@@ -1,6 +1,8 @@
 // The answers of reads and looks in words, each with the number of its line. What does not fit is cut off.
 #![tactic(auto)]
 
+pub mod report;
+
 ghost use Rattle.text.specs.Says.{Says};
 ghost use Rattle.answers.specs.Answers.{answer_said, byte_said, cell_said, whole_said};
 

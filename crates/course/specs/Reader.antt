@@ -1,7 +1,7 @@
 -- What the bytes of a history do: they make up lines, and each line's end has it done. docs/HISTORY-FORMAT.md. Assumes nothing.
 use Rattle.time.specs.declared.Time.{Time}
 use Rattle.std.specs.Prelude.{ℕ, ◌-◌, Bool, false, cond, not, ◌||◌, List, [], ◌∷◌, ◌++◌, Option, None, eqb, ltb, length, take}
-use Rattle.reason.specs.declared.Reason.TheVariants.{TooLong}
+use Rattle.words.specs.declared.reason.Reason.TheVariants.{TooLong}
 use Rattle.fields.specs.declared.Fault.{Fault}
 use Rattle.grammar.specs.declared.Line.{Line}
 use Rattle.grammar.specs.declared.Line.TheVariants.{Wrong}

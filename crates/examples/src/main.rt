@@ -21,7 +21,7 @@ fn run<R: Files + Print + Eprint>(rt: &R, args: &[u8]) {
     let _ = rt.write_all(b"$ wipe");
     type_words(rt, args);
     let _ = rt.write_all(b"\n");
-    desk::work(rt, args, rt);
+    session::desk::work(rt, args, rt);
     drawn::tell(rt);
     let _ = rt.write_all(b"\n");
 }

@@ -2,12 +2,15 @@
 // ends, and that it stays in the slice; the words themselves are the code's. What does not fit is cut off.
 #![tactic(auto, using(text::proofs::Joined::some_text))]
 
+mod missing_words;
+mod wrong_words;
+
 ghost use Rattle.text.specs.Says.{SaysSome};
 
-use missing_words::missing;
-use reason::Reason;
+use crate::missing_words::missing;
+use words::reason::Reason;
 use text::Text;
-use wrong_words::wrong;
+use crate::wrong_words::wrong;
 
 // The sentence on a word, or on one that is missing, if the word is empty.
 fn sentence(text: &mut Text, word: &[u8], reason: Reason)

@@ -2,14 +2,14 @@
 -- wrong one. Assumes nothing.
 use Rattle.std.specs.Prelude.{ℕ, Bool, cond, List, Option, Some, None, Result, Ok, Err, eqb, ltb}
 use Rattle.byte_search.specs.Search.{slice}
-use Rattle.reason.specs.declared.Reason.{Reason}
-use Rattle.reason.specs.declared.Reason.TheVariants.{NoRegister, NoAddress, NoByte, NoValue, BitTwice, NoMode, NoModule, NoOscillator, NoBitNumber}
+use Rattle.words.specs.declared.reason.Reason.{Reason}
+use Rattle.words.specs.declared.reason.Reason.TheVariants.{NoRegister, NoAddress, NoByte, NoValue, BitTwice, NoMode, NoModule, NoOscillator, NoBitNumber}
 use Rattle.words.specs.declared.Word.{Word}
 use Rattle.words.specs.Text.{named}
-use Rattle.names.specs.declared.NoBits.{NoBits}
-use Rattle.names.specs.declared.NoBits.TheVariants.{Twice, NoName}
-use Rattle.names.specs.Names.{register_named, modes, modules, oscillators}
-use Rattle.names.specs.Values.{bits_named}
+use Rattle.words.specs.declared.names.NoBits.{NoBits}
+use Rattle.words.specs.declared.names.NoBits.TheVariants.{Twice, NoName}
+use Rattle.words.specs.Names.{register_named, modes, modules, oscillators}
+use Rattle.words.specs.Values.{bits_named}
 use Rattle.digits.specs.declared.NoNumber.{NoNumber}
 use Rattle.digits.specs.Digits.{hex_in}
 use Rattle.fields.specs.declared.Fault.{Fault}

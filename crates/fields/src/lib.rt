@@ -6,9 +6,9 @@ ghost use Rattle.digits.specs.Digits.{hex_in};
 ghost use Rattle.fields.specs.Fields.{bytes_of, below, fault_at, number_of, register_in, value_in, address_in, byte_in, bit_in, mode_in, module_in, oscillator_in};
 
 use digits::hexadecimal;
-use names::values::bits_named;
-use names::{NoBits, mode_named, module_named, oscillator_named, register_named};
-use reason::Reason;
+use words::names::values::bits_named;
+use words::names::{NoBits, mode_named, module_named, oscillator_named, register_named};
+use words::reason::Reason;
 use words::{LineWord, Word};
 
 // Why a line can't be taken, and the stretch of it that is wrong, which is empty where something is missing.

@@ -2,8 +2,8 @@
 use mathlib.Core.Path.{refl}
 use Rattle.time.specs.Raw.{raw, span, instant, duration, micros, plus, added}
 use Rattle.words.specs.Words.{word_at}
-use Rattle.names.specs.Names.{bit_named}
-use Rattle.names.specs.Values.{bits_from, bits_named}
+use Rattle.words.specs.Names.{bit_named}
+use Rattle.words.specs.Values.{bits_from, bits_named}
 use Rattle.digits.specs.Digits.{digit_of, number_from, number_in, hex_in}
 use Rattle.moments.specs.Moments.{length_of, moment_of}
 use Rattle.fields.specs.Fields.{register_in, value_in, address_in, byte_in, bit_in, mode_in, module_in, oscillator_in}

@@ -4,15 +4,15 @@
 use Rattle.std.specs.Prelude.{ℕ, ◌-◌, Bool, cond, List, Option, Some, None, Result, Ok, Err}
 use Rattle.time.specs.declared.Time.{Time}
 use Rattle.cell.specs.Cell.{array_bytes}
-use Rattle.reason.specs.declared.Reason.{Reason}
-use Rattle.reason.specs.declared.Reason.TheVariants.{NoCall, UnknownCall, MoreWords, PastTheEnd, WordPastTheEnd}
+use Rattle.words.specs.declared.reason.Reason.{Reason}
+use Rattle.words.specs.declared.reason.Reason.TheVariants.{NoCall, UnknownCall, MoreWords, PastTheEnd, WordPastTheEnd}
 use Rattle.lent.specs.declared.Request.TheVariants as request
 use Rattle.moments.specs.Moments.{moment_of}
 use Rattle.words.specs.declared.Word.{Word}
 use Rattle.words.specs.Words.{word_at}
-use Rattle.names.specs.declared.Kind.{Kind}
-use Rattle.names.specs.declared.Kind.TheVariants as kind
-use Rattle.names.specs.Names.{call_named}
+use Rattle.words.specs.declared.names.Kind.{Kind}
+use Rattle.words.specs.declared.names.Kind.TheVariants as kind
+use Rattle.words.specs.Names.{call_named}
 use Rattle.grammar.specs.declared.Line.{Line}
 use Rattle.grammar.specs.declared.Line.TheVariants.{Nothing, Call, Look, Wrong}
 use Rattle.grammar.specs.declared.Looking.TheVariants.{Whole, Byte, Cell}

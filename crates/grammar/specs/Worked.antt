@@ -3,8 +3,8 @@
 use Rattle.std.specs.Prelude.{ℕ, ◌+◌, ◌^◌, true, false, [], ◌∷◌, ◌++◌, ◌≡◌, Some, None}
 use Prim.Native.String.{String}
 use Rattle.time.specs.declared.Time.{Time}
-use Rattle.reason.specs.declared.Reason.{Reason}
-use Rattle.reason.specs.declared.Reason.TheVariants as reason
+use Rattle.words.specs.declared.reason.Reason.{Reason}
+use Rattle.words.specs.declared.reason.Reason.TheVariants as reason
 use Rattle.lent.specs.declared.Request.TheVariants.{WriteRegister, Write8, Reset, Environment}
 use Rattle.words.specs.Text.{text}
 use Rattle.grammar.specs.declared.Line.{Line}

@@ -10,8 +10,8 @@ use crate::lines::{
 use fields::Fault;
 use lent::Request;
 use moments::moment_in;
-use names::{Kind, call_named};
-use reason::Reason;
+use words::names::{Kind, call_named};
+use words::reason::Reason;
 use time::Time;
 use words::LineWord;
 

@@ -10,7 +10,7 @@ use fields::{
     Fault, address_in, bit_in, byte_in, mode_in, module_in, oscillator_in, register_in, value_in,
 };
 use lent::Request;
-use reason::Reason;
+use words::reason::Reason;
 use time::Time;
 use words::LineWord;
 

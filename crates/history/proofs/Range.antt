@@ -10,19 +10,19 @@ use lib.Dec.{ltb}
 use Rattle.time.specs.declared.Time.{Time}
 use Rattle.time.proofs.Bools.{either}
 use Rattle.layout.specs.Whole.{TimeFits}
-use Rattle.reason.specs.declared.Reason.{Reason}
-use Rattle.reason.specs.declared.Reason.TheVariants.{NoMode, NoRegister, NoAddress, NoByte}
+use Rattle.words.specs.declared.reason.Reason.{Reason}
+use Rattle.words.specs.declared.reason.Reason.TheVariants.{NoMode, NoRegister, NoAddress, NoByte}
 use Rattle.lent.specs.declared.Request.{Request}
 use Rattle.ledger.specs.Lists.{Numbers}
 use Rattle.words.specs.declared.Word.{Word}
 use Rattle.words.specs.Words.{word_at}
-use Rattle.names.specs.declared.Kind.{Kind}
-use Rattle.names.specs.declared.Kind.TheVariants as kind
-use Rattle.names.specs.declared.NoBits.{NoBits}
-use Rattle.names.specs.declared.NoBits.TheVariants as bits
-use Rattle.names.specs.Names.{call_named, register_named, modes}
-use Rattle.names.specs.Values.{bits_named}
-use Rattle.names.proofs.Below.{bits_below, register-below, mode-below}
+use Rattle.words.specs.declared.names.Kind.{Kind}
+use Rattle.words.specs.declared.names.Kind.TheVariants as kind
+use Rattle.words.specs.declared.names.NoBits.{NoBits}
+use Rattle.words.specs.declared.names.NoBits.TheVariants as bits
+use Rattle.words.specs.Names.{call_named, register_named, modes}
+use Rattle.words.specs.Values.{bits_named}
+use Rattle.words.proofs.Below.{bits_below, register-below, mode-below}
 use Rattle.digits.specs.declared.NoNumber.{NoNumber}
 use Rattle.digits.specs.Digits.{hex_in}
 use Rattle.digits.proofs.Laws.{hex-below}

@@ -3,7 +3,7 @@
 use Rattle.std.specs.Prelude.{ℕ, ◌+◌, ◌*◌, cond, ◌≡◌, List, [], ◌∷◌, ◌++◌, Option, Some, Result, Ok, Err, length}
 use Rattle.std.proofs.lemmas.List.Edits.{sets}
 use Rattle.time.specs.declared.Time.{Time}
-use Rattle.reason.specs.declared.Reason.{Reason}
+use Rattle.words.specs.declared.reason.Reason.{Reason}
 use Rattle.moments.specs.Moments.{moment_of}
 use Rattle.words.specs.Words.{word_at}
 use Rattle.fields.specs.Fields.{bytes_of, missing}

@@ -14,8 +14,8 @@ use Rattle.time.specs.declared.Duration.{Duration}
 use Rattle.std.specs.Prelude.{Option, Some, None, Result, Ok, Err}
 use Rattle.time.specs.Raw.{raw, span, instant, duration, micros, plus, added}
 use Rattle.time.proofs.Bools.{either}
-use Rattle.reason.specs.declared.Reason.{Reason}
-use Rattle.reason.specs.declared.Reason.TheVariants.{TooManyDecimals}
+use Rattle.words.specs.declared.reason.Reason.{Reason}
+use Rattle.words.specs.declared.reason.Reason.TheVariants.{TooManyDecimals}
 use Rattle.digits.specs.Digits.{number_in}
 use Rattle.digits.specs.declared.NoNumber.{NoNumber}
 use Rattle.digits.specs.declared.NoNumber.TheVariants as number

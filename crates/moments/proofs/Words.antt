@@ -9,8 +9,8 @@ use Rattle.byte_search.specs.Search.{index_of}
 use Rattle.byte_search.proofs.Found.{here, nowhere}
 use Rattle.time.specs.Raw.{micros}
 use Rattle.time.specs.declared.Duration.{Duration}
-use Rattle.reason.specs.declared.Reason.{Reason}
-use Rattle.reason.specs.declared.Reason.TheVariants.{TooManyDecimals}
+use Rattle.words.specs.declared.reason.Reason.{Reason}
+use Rattle.words.specs.declared.reason.Reason.TheVariants.{TooManyDecimals}
 use Rattle.moments.specs.Moments.{has, head_of, tail_of, part_of, with_decimals}
 use Rattle.moments.proofs.Laws.{part-below, scaled-by, is-in-micros}
 

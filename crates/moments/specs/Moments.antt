@@ -6,9 +6,9 @@ use Rattle.byte_search.specs.Search.{index_of}
 use Rattle.time.specs.Raw.{micros, micros_per_second, added}
 use Rattle.time.specs.declared.Time.{Time}
 use Rattle.time.specs.declared.Duration.{Duration}
-use Rattle.reason.specs.declared.Reason.{Reason}
-use Rattle.reason.specs.declared.Reason.TheVariants.{NoTime, TooManyDecimals, NoTimeBefore, PastTheLastInstant}
-use Rattle.reason.specs.declared.Reason.TheVariants as reason
+use Rattle.words.specs.declared.reason.Reason.{Reason}
+use Rattle.words.specs.declared.reason.Reason.TheVariants.{NoTime, TooManyDecimals, NoTimeBefore, PastTheLastInstant}
+use Rattle.words.specs.declared.reason.Reason.TheVariants as reason
 use Rattle.digits.specs.Digits.{number_in}
 use Rattle.digits.specs.declared.NoNumber.{NoNumber}
 use Rattle.digits.specs.declared.NoNumber.TheVariants as number

@@ -6,7 +6,7 @@ ghost use Rattle.moments.specs.Moments.{part_of, seconds, exactly, with_decimals
 
 use byte_search::find;
 use digits::{NoNumber, decimal};
-use reason::Reason;
+use words::reason::Reason;
 use time::{Duration, MICROS, MICROSECOND, Time};
 
 // A part of a word, which is a decimal number.

@@ -9,9 +9,9 @@ ghost use Rattle.flash.specs.Chip.{placed, sensed_after, Fit, Performed};
 
 use calling::{next, settles};
 use flash::{Answer, BLANK_SENSED, Flash};
-use parts::answering::{settled_answer, stored_answer};
-use parts::ending::end_pulse;
-use parts::verifying::sense;
+use flash_answer::{settled_answer, stored_answer};
+use flash_end::end_pulse;
+use flash_sense::sense;
 use registers::Call;
 use settle::cells::CellsMut;
 use settling::settle;

@@ -16,6 +16,7 @@ use std::rt::Files;
 use telling::reading::opened;
 use telling::{Outlets, Told};
 
+pub mod desk;
 mod complaints;
 mod pieces;
 mod run;

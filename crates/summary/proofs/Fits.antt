@@ -19,7 +19,7 @@ use Rattle.text.specs.declared.Mark.{Mark}
 use Rattle.text.specs.declared.Mark.TheVariants.{Plain, Word, Number}
 use Rattle.text.specs.Text.{bytes, digits, mark_of, piece, taken, filled}
 use Rattle.text.specs.Puts.{fitting, Puts}
-use Rattle.report.specs.Report.{call_lines, verdict_line}
+use Rattle.answers.specs.Report.{call_lines, verdict_line}
 use Rattle.verdict.specs.Legible.{legible}
 use Rattle.verdict.specs.declared.Counts.{Counts}
 use Rattle.summary.specs.declared.Judged.{Judged}

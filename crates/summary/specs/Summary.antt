@@ -6,7 +6,7 @@ use Rattle.cell.specs.Cell.{page_bytes, pages, at}
 use Rattle.text.specs.declared.Text.{Text}
 use Rattle.text.specs.Text.{bytes, filled, said}
 use Rattle.text.specs.Says.{Says}
-use Rattle.report.specs.Report.{call_lines, pulse_line, page_line, legible_line, verdict_line}
+use Rattle.answers.specs.Report.{call_lines, pulse_line, page_line, legible_line, verdict_line}
 use Rattle.verdict.specs.declared.Tally.{Tally}
 use Rattle.verdict.specs.Blocks.{blocks, block_range}
 use Rattle.verdict.specs.Legible.{legible, legible_in}

@@ -5,7 +5,7 @@ ghost use Rattle.verdict.specs.Blocks.{blocks};
 ghost use Rattle.summary.specs.Summary.{lines, left_out_line, pulses_in, counts_text};
 
 use crate::series::put_lines;
-use report::{calls, pulses};
+use answers::report::{calls, pulses};
 use text::Text;
 use verdict::blocks::BLOCKS;
 use verdict::{Counts, Tally};

@@ -7,7 +7,7 @@ ghost use Rattle.summary.specs.Summary.{lies as Summary·lies};
 
 use crate::Judged;
 use cell::{FLASH_SIZE, PAGE, PAGES};
-use report::verdict as verdict_line;
+use answers::report::verdict as verdict_line;
 use text::Text;
 use verdict::legible::legible_pages;
 

@@ -7,7 +7,7 @@ ghost use Rattle.summary.specs.Summary.{lines, pages_in, page_legible, pages_tex
 
 use crate::series::put_lines;
 use cell::{FLASH_SIZE, PAGE, PAGES};
-use report::{legible_page, pages};
+use answers::report::{legible_page, pages};
 use text::Text;
 use verdict::blocks::{BLOCKS, block_range};
 use verdict::legible::{legible, legible_in_block};

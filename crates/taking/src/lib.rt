@@ -10,7 +10,7 @@ use course::{LineSoFar, Place};
 use fields::Fault;
 use grammar::Line;
 use history::take;
-use reason::Reason;
+use words::reason::Reason;
 use time::Time;
 use words::Word;
 

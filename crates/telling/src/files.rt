@@ -6,7 +6,7 @@ use drafts::{discard, draft, keep};
 use lent::memory::Lent;
 use notices::FileTrouble;
 use picture::see_shades;
-use report::picture_head;
+use answers::report::picture_head;
 use save::write_snapshot;
 use slices::first;
 use std::rt::Files;

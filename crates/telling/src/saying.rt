@@ -3,7 +3,7 @@ use crate::Told;
 use faults::fault;
 use notices::help::help;
 use notices::{FileTrouble, file_trouble, image_length};
-use reason::Reason;
+use words::reason::Reason;
 use refusals::{look_refusal, no_snapshot, refusal, unseen};
 use text::Text;
 

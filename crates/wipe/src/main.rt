@@ -1,4 +1,4 @@
-// The program for the support desk: the verdict on a history. The work is done by `desk`; here its arguments are collected.
+// The program for the support desk: the verdict on a history. The work is done by `session::desk`; here its arguments are collected.
 #![tactic(auto)]
 
 use drafts::PATH_ROOM;
@@ -50,6 +50,6 @@ fn main(rt: HostRuntime) {
     let mut room = [0u8; ROOM];
     let mut args = Text::new(&mut room);
     if collect(&rt, &mut args).is_ok() {
-        desk::work(&rt, args.as_bytes(), &rt.stderr());
+        session::desk::work(&rt, args.as_bytes(), &rt.stderr());
     }
 }

@@ -1,2 +1,4 @@
 pub mod Spelled
 pub mod Next
+pub mod Sums
+pub mod Below

@@ -1,2 +1,4 @@
 pub mod Text
 pub mod Words
+pub mod Names
+pub mod Values

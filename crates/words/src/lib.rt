@@ -7,6 +7,8 @@ ghost use Rattle.words.specs.Words.{blank, in_word, word_at};
 
 pub use crate::line_word::LineWord;
 
+pub mod reason;
+pub mod names;
 mod line_word;
 pub mod spelling;
 
