@@ -8,12 +8,11 @@ use native.Mathlib.Decide.{dec_lt}
 use lib.ListN.{length, replicate, length-replicate, get_or-replicate, get_or-eq_default}
 use Rattle.cell.specs.declared.Sense.TheVariants.{Normal}
 use Rattle.cell.specs.Cell.{at, bit, first_charge}
-use Rattle.cell.proofs.Rule.{first_charge-full}
 use Rattle.cell.proofs.Sensed.{sensed_byte-same, first-sensed}
 use Rattle.settle.specs.Pages.{held, cell_at}
 use Rattle.settle.specs.Settling.{normal_byte}
 use Rattle.flash.specs.Chip.{no_pages}
-use Rattle.settle.proofs.Expose.{Sound}
+use Rattle.settle.proofs.Expose.{Ordered, Senses}
 
 -- no page is opened
 pub none_open : (n p : ℕ) → at (no_pages n) p ≡ 0
@@ -29,26 +28,30 @@ pub fresh-cell : (firmware charges : List ℕ) (i : ℕ)
 unfolding cell_at held
 fresh-cell firmware charges i = rw (none_open 384 (i / 1024))
 
-pub fresh-sound : (firmware charges : List ℕ) → length firmware ≡ 49152 → length charges ≡ 393216 → ((a : ℕ) → a < 49152 → at firmware a < 256)
-    → Sound (record { index = no_pages 384; array = firmware; charges = charges })
-unfolding no_pages normal_byte
-fresh-sound firmware charges h k small =
-    record {
-      slots = record {
-        pages = length-replicate {A = ℕ} 384 0;
-        room = k;
-        below = λ p j e. absurd (shut p j e);
-        one = λ p q j e f. absurd (shut p j e);
-      };
-      bytes = h;
-      full = λ i l. rw (fresh-cell firmware charges i) (first_charge-full (bit (at firmware (i / 8)) (i % 8)));
-      sense = λ a l.
-          sym (first-sensed a (at firmware a) (small a l))
-          ∙ sensed_byte-same Normal a _ _
-          (λ j m. let e : (8 * a + j) / 8 ≡ a = omega arith in
-          let n : (8 * a + j) % 8 ≡ j = omega arith in
-          sym (fresh-cell firmware charges (8 * a + j) ∙ rw (e, n)));
-    }
-  where
-    shut : (p j : ℕ) → at (no_pages 384) p ≡ suc j → ⊥
-    shut p j e = omega (arith, none_open 384 p)
+module _ (firmware charges : List ℕ) (small : (a : ℕ) → at firmware a < 256) where
+  pub fresh-ordered : length firmware ≡ 49152 → length charges ≡ 393216
+      → Ordered (record { index = no_pages 384; array = firmware; charges = charges })
+  unfolding no_pages
+  fresh-ordered h k =
+      record {
+        slots = record {
+          pages = length-replicate {A = ℕ} 384 0;
+          room = k;
+          below = λ p j e. absurd (shut p j e);
+          one = λ p q j e f. absurd (shut p j e);
+        };
+        long = h;
+        small = small;
+      }
+    where
+      shut : (p j : ℕ) → at (no_pages 384) p ≡ suc j → ⊥
+      shut p j e = omega (arith, none_open 384 p)
+
+  pub fresh-senses : Senses (record { index = no_pages 384; array = firmware; charges = charges })
+  unfolding normal_byte
+  fresh-senses a l =
+      sym (first-sensed a (at firmware a) (small a))
+      ∙ sensed_byte-same Normal a _ _
+      (λ j m. let e : (8 * a + j) / 8 ≡ a = omega arith in
+      let n : (8 * a + j) % 8 ≡ j = omega arith in
+      sym (fresh-cell firmware charges (8 * a + j) ∙ rw (e, n)))

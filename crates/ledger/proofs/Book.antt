@@ -1,10 +1,13 @@
 -- Booking a pulse once is settling it again and again: the exposures of the parts add up to that of the whole, so what is booked to the
--- last settling and then settled to a time is what is booked to that time. A pulse that opens now has booked nothing.
+-- last settling and then settled to a time is what is booked to that time, whatever the charges are. A pulse that opens now has booked
+-- nothing.
 -- Assumes nothing.
 use mathlib.Core.Path.{◌≡◌, refl, sym, ap, ◌∙◌}
 use mathlib.Core.Bool.{true, ◌&&◌, true≢false}
 use mathlib.Core.List.{List}
-use Prim.Native.Nat.{ℕ, ◌<◌, ◌≤◌}
+use Prim.Native.Nat.{ℕ, zero, suc, ◌+◌, ◌<◌, ◌≤◌}
+use native.Mathlib.Nat.{zero-add, add-zero}
+use native.Mathlib.Omega.{arith}
 use borrow.Author.Tests.{eqb-true, eq-eqb}
 use lib.Dec.{eqb}
 use Rattle.std.specs.Prelude.{Option, Some, None}
@@ -13,11 +16,13 @@ use Rattle.time.specs.declared.Time.{Time}
 use Rattle.time.specs.Raw.{raw}
 use Rattle.cell.specs.declared.Direction.{Direction}
 use Rattle.cell.specs.declared.Direction.TheVariants.{Program, Erase}
-use Rattle.cell.specs.Cell.{FULL}
 use Rattle.registers.specs.declared.Pulse.{Pulse}
 use Rattle.settle.specs.Pages.{Cells, cell_at}
 use Rattle.settle.specs.Settling.{exposure, ruled, settled_by, same_direction, same_time, same_pulse}
-use Rattle.settle.proofs.Expose.{Sound, exposures-join, no-exposure, ruled-zero, ruled-add, ruled-full, settled-cell-full}
+use Rattle.settle.proofs.Slots.{SlotsOf}
+use Rattle.settle.proofs.Expose.{exposures-join, no-exposure, ruled-add}
+use Rattle.flash.specs.Looking.{exposed_by}
+use Rattle.flash.proofs.Look.{look-cell}
 use Rattle.ledger.specs.Ledger.{booked}
 
 -- ---- pulses that are the same
@@ -67,28 +72,34 @@ pub settle-closed : (o : Option Pulse) (latch : List ℕ) (since t : Time) (c : 
 unfolding settled_by
 settle-closed o latch since t c e = rw e
 
-pub book-full : (o : Option Pulse) (latch : List ℕ) (opened t : Time) (charge : ℕ → ℕ) (i : ℕ) → charge i ≤ FULL
-    → booked o latch opened t charge i ≤ FULL
-unfolding booked
-book-full None latch opened t charge i h = h
-book-full (Some p) latch opened t charge i h = ruled-full p latch (exposure p opened t) i (charge i) h
+-- an exposure that is not 0 goes by the rule of a cell
+exposed-above : (p : Pulse) (latch : List ℕ) (l i q : ℕ) → 0 < l → exposed_by p latch l i q ≡ ruled p latch l i q
+unfolding exposed_by
+exposed-above p latch zero i q h = absurd (omega arith)
+exposed-above p latch (suc l) i q h = refl
 
-pub book-now : (o : Option Pulse) (latch : List ℕ) (t : Time) (charge : ℕ → ℕ) (i : ℕ) → charge i ≤ FULL
-    → booked o latch t t charge i ≡ charge i
-unfolding booked
-book-now None latch t charge i h = refl
-book-now (Some p) latch t charge i h = rw (no-exposure p t) (ruled-zero p latch i (charge i) h)
+exposed-add : (p : Pulse) (latch : List ℕ) (l m i q : ℕ) → exposed_by p latch m i (exposed_by p latch l i q) ≡ exposed_by p latch (l + m) i q
+unfolding exposed_by
+exposed-add p latch zero m i q = rw (zero-add m)
+exposed-add p latch (suc l) zero i q = rw (add-zero (suc l))
+exposed-add p latch (suc l) (suc m) i q =
+    ruled-add p latch (suc l) (suc m) i q ∙ sym (exposed-above p latch (suc l + suc m) i q (omega arith))
 
-pub settle-book : (o : Option Pulse) (latch : List ℕ) (opened since t : Time) (charge : ℕ → ℕ) (c : Cells) → Sound c → raw opened ≤ raw since
+pub book-now : (o : Option Pulse) (latch : List ℕ) (t : Time) (charge : ℕ → ℕ) (i : ℕ) → booked o latch t t charge i ≡ charge i
+unfolding booked exposed_by
+book-now None latch t charge i = refl
+book-now (Some p) latch t charge i = rw (no-exposure p t)
+
+pub settle-book : (o : Option Pulse) (latch : List ℕ) (opened since t : Time) (charge : ℕ → ℕ) (c : Cells) → SlotsOf c → raw opened ≤ raw since
     → raw since ≤ raw t → (i : ℕ) → i < 393216 → cell_at c i ≡ booked o latch opened since charge i
     → cell_at (settled_by o latch since t c) i ≡ booked o latch opened t charge i
 unfolding booked settled_by
-settle-book None latch opened since t charge c s h k i l e = e
-settle-book (Some p) latch opened since t charge c s h k i l e =
-    settled-cell-full latch since t c p s.slots i l (s.full i l)
-    ∙ ap (ruled p latch (exposure p since t) i) e
-    ∙ ruled-add p latch (exposure p opened since) (exposure p since t) i (charge i)
-    ∙ ap (λ (n : ℕ). ruled p latch n i (charge i)) (exposures-join p opened since t h k)
+settle-book None latch opened since t charge c inv h k i l e = e
+settle-book (Some p) latch opened since t charge c inv h k i l e =
+    look-cell p latch (exposure p since t) c inv i l
+    ∙ ap (exposed_by p latch (exposure p since t) i) e
+    ∙ exposed-add p latch (exposure p opened since) (exposure p since t) i (charge i)
+    ∙ ap (λ (n : ℕ). exposed_by p latch n i (charge i)) (exposures-join p opened since t h k)
 
 -- the same pulse with the same latch books the same
 pub book-kept : (o o' : Option Pulse) (latch latch' : List ℕ) → o' ≡ o → ((p : Pulse) → o ≡ Some p → latch' ≡ latch)

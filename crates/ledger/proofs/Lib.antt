@@ -4,7 +4,9 @@ pub mod Book
 pub mod Carried
 pub mod Clear
 pub mod Demand
+pub mod Events
 pub mod Kept
+pub mod Order
 pub mod Programmed
 pub mod Twice
 pub mod Values

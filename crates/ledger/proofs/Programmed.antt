@@ -25,17 +25,15 @@ use Rattle.registers.specs.Environment.{blank_latch, fresh}
 use Rattle.registers.specs.Calls.{next, settles, ending}
 use Rattle.settle.specs.Pages.{Cells, cell_at}
 use Rattle.settle.specs.Settling.{exposure, covers, charged, ruled, normal_byte, expose, settled_by, word, change, changes, same_pulse, end_of, ended, end_words, sensed_by}
-use Rattle.settle.proofs.Expose.{Sound, Where, inside, outside, whether, normal-same, ruled-yes, resensed-here, resensed-else, expose-array-length}
+use Rattle.settle.proofs.Expose.{Senses, Where, inside, outside, whether, normal-same, ruled-yes, resensed-here, resensed-else, expose-array-length}
 use Rattle.settle.proofs.Loop.{changes-set, changes-same}
 use Rattle.flash.specs.Chip.{Chip, cells, step_if, step, fresh_flash}
-use Rattle.flash.proofs.Fresh.{fresh-sound, fresh-cell}
+use Rattle.flash.proofs.Fresh.{fresh-cell, fresh-senses}
 use Rattle.layout.specs.Whole.{TimeFits}
 use Rattle.lent.specs.Asked.{call_refusal}
-use Rattle.ledger.specs.Ledger.{fresh_ledger}
 use Rattle.ledger.specs.Lists.{Typed, new_memory, events_of}
 use Rattle.ledger.specs.Worked.{moment, programming}
-use Rattle.ledger.proofs.Agree.{fresh-agree}
-use Rattle.ledger.proofs.Kept.{fresh-fits, fresh-sound-state}
+use Rattle.ledger.proofs.Order.{fresh-order}
 use Rattle.ledger.proofs.Clear.{Clear, step_events, clear-events}
 
 -- the pulse that the last call ends, and its latch
@@ -128,9 +126,9 @@ module _ (firmware charges : List ℕ) (h : length firmware ≡ 49152) (ff : (x 
           let e : at firmware x ≡ 0 = get_or-eq_default firmware 0 (omega arith) in
           omega arith
 
-  sound : Sound (new_cells firmware charges)
+  sensing : Senses (new_cells firmware charges)
   unfolding fresh_flash
-  sound = fresh-sound firmware charges h k (λ x l. small x)
+  sensing = fresh-senses firmware charges small
 
   -- cells of FF have charge 0
   empty : (i : ℕ) → i < 393216 → cell_at (new_cells firmware charges) i ≡ 0
@@ -163,7 +161,7 @@ module _ (firmware charges : List ℕ) (h : length firmware ≡ 49152) (ff : (x 
       by a m (no n) (inside c p q) =
           resensed-here programs rule firmware a (omega arith) c
           ∙ normal-same rule (cell_at (new_cells firmware charges)) a (λ j r. unmoved (8 * a + j) (omega arith) (λ z. n (omega arith)))
-          ∙ sym (sound.sense a m) ∙ sym (get_or-set_other firmware 0x80 a v 0 n)
+          ∙ sym (sensing a m) ∙ sym (get_or-set_other firmware 0x80 a v 0 n)
       by a m o (outside c p) = resensed-else programs rule firmware a c ∙ sym (get_or-set_other firmware 0x80 a v 0 (λ z. n z p))
         where
           n : a ≡ 0x80 → (a / 128 < 1) ⊎ (2 ≤ a / 128) → ⊥
@@ -179,8 +177,7 @@ module _ (firmware charges : List ℕ) (h : length firmware ≡ 49152) (ff : (x 
   events-run : (l : ℕ) → l < 2 ^ 64 → Runs l firmware charges
       → events_of (programming l) (new_memory firmware charges) ≡ changes 0 firmware (exposed_for l firmware charges) ++ word 2 0x80 0x80 ∷ []
   events-run l b r =
-      clear-events (programming l) (new_chip firmware charges) (fresh_ledger firmware) (typed l b) r.0 fresh-fits fresh-sound-state
-      (fresh-agree firmware charges h k small)
+      clear-events (programming l) (new_chip firmware charges) (typed l b) r.0 (fresh-order firmware charges h small k)
       ∙ r.1
 
   pub programmed : (events_of (programming 33323150584765642) (new_memory firmware charges) ≡ word 1 0x80 0xFE ∷ word 2 0x80 0x80 ∷ [])

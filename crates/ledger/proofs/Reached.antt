@@ -1,62 +1,98 @@
--- Memory that calls left is whole: its chip agrees with the ledger, so no cell is past FULL, and each slot in use is some cell's. So what is
--- claimed of snapshots is so of it; and call by call, alike memories stay alike. Assumes nothing.
+-- Calls keep memory whole: no cell is past FULL, and each slot in use is some cell's. A new array is whole, so memory that calls left is,
+-- and what is claimed of snapshots is so of it; and call by call, alike memories stay alike. Memory that a snapshot was read into is whole
+-- too, so that lists of calls go on from there. Assumes nothing.
 use mathlib.Core.Path.{◌≡◌, refl, sym, ◌∙◌, subst}
 use mathlib.Core.Bool.{false, not}
 use mathlib.Core.List.{List, [], ◌∷◌, ◌++◌}
-use Prim.Native.Nat.{ℕ, suc, ◌+◌, ◌*◌, ◌/◌, ◌%◌, ◌≤◌, ◌<◌}
+use Prim.Native.Nat.{ℕ, zero, suc, ◌+◌, ◌*◌, ◌/◌, ◌%◌, ◌≤◌, ◌<◌}
 use native.Mathlib.Omega.{arith}
-use borrow.Author.Tests.{eq-eqb}
 use lib.Dec.{eqb}
 use lib.ListN.{length, take}
 use lib.Seq.{sets, length-sets, length-take-le, get_or-take}
-use Rattle.cell.specs.Cell.{at, FULL}
-use Rattle.settle.specs.Pages.{Cells, opened}
-use Rattle.settle.proofs.Slots.{opened-le}
+use Rattle.cell.specs.Cell.{at, bit, FULL}
+use Rattle.cell.proofs.Rule.{first_charge-full}
+use Rattle.settle.specs.Pages.{Cells, held, cell_at, opened}
+use Rattle.settle.proofs.Slots.{SlotsOf, opened-le}
 use Rattle.settle.proofs.Loop.{slot-cell}
-use Rattle.settle.proofs.Expose.{Sound}
-use Rattle.flash.specs.Chip.{cells}
+use Rattle.settle.proofs.Expose.{Full}
+use Rattle.flash.specs.Chip.{cells, no_pages, fresh_flash}
 use Rattle.layout.specs.Layout.{decoded}
-use Rattle.layout.proofs.Back.{decoded-index}
+use Rattle.layout.proofs.Back.{decoded-index, written-reads-back}
 use Rattle.lent.specs.Memory.{Memory, chip_in, misfits}
 use Rattle.lent.proofs.Fitted.{sizes-fit}
 use Rattle.snapshot.specs.Snapshot.{place_of}
+use Rattle.snapshot.specs.Asked.{memory_read}
 use Rattle.snapshot.specs.Claim.{in_use, Whole, Alike}
 use Rattle.snapshot.proofs.Pigeon.{slot-has-page}
 use Rattle.snapshot.proofs.Alike.{alike-answers}
 use Rattle.snapshot.proofs.Claimed.{snapshots}
-use Rattle.ledger.specs.Ledger.{Ledger, fresh_ledger}
-use Rattle.ledger.specs.Lists.{Asked, asked, new_memory, memory_after, events_of, heard_of}
-use Rattle.ledger.specs.Reached.{Reached, ReachedReadsBack}
-use Rattle.ledger.proofs.Agree.{sound-byte}
+use Rattle.ledger.specs.Lists.{Asked, asked, Typed, new_memory, memory_after, events_of, heard_of}
+use Rattle.ledger.specs.Claim.{Good}
+use Rattle.ledger.specs.Reached.{Reached, ReachedReadsBack, ReadOnward}
+use Rattle.ledger.proofs.Kept.{fresh-fits}
+use Rattle.ledger.proofs.Order.{order-in, full-lasting}
 use Rattle.ledger.proofs.Accepted.{left_at}
-use Rattle.ledger.proofs.Carried.{Carries, followed}
-use Rattle.ledger.proofs.Demand.{start}
+use Rattle.ledger.proofs.Carried.{followed}
+use Rattle.ledger.proofs.Demand.{onward, new-good}
 
--- ---- reached memory is whole
+-- ---- calls keep memory whole
 
--- a charge in use is that of some cell
-used-full : (c : Cells) → Sound c → (i : ℕ) → i < opened c.index * 1024 → at c.charges i ≤ FULL
-used-full c s i h =
-    let slot = i / 1024 in
-    let p = slot-has-page c.index c.charges s.slots slot (omega arith) in
-    let page = place_of (suc slot) c.index in
-    let d : slot * 1024 + i % 1024 ≡ i = omega arith in
-    rw (← d, ← (slot-cell c page slot p.1 (i % 1024) (omega arith))) (s.full (page * 1024 + i % 1024) (omega (arith, p.0)))
+module _ (c : Cells) (inv : SlotsOf c) where
+  -- a cell's charge is a first one, 0 or FULL, or in use
+  used-cells : ((i : ℕ) → i < opened c.index * 1024 → at c.charges i ≤ FULL) → Full c
+  unfolding cell_at held
+  used-cells f i h = by (at c.index (i / 1024)) refl
+    where
+      by : (v : ℕ) → at c.index (i / 1024) ≡ v → held v c.array c.charges i ≤ FULL
+      by zero e = first_charge-full (bit (at c.array (i / 8)) (i % 8))
+      by (suc s) e = f (s * 1024 + i % 1024) (omega (arith, inv.below (i / 1024) s e))
 
-carried-whole : (m : Memory) (led : Ledger) → Carries m led → Whole m
-carried-whole m led a =
+  -- a charge in use is that of some cell
+  cells-used : Full c → (i : ℕ) → i < opened c.index * 1024 → at c.charges i ≤ FULL
+  cells-used f i h =
+      let slot = i / 1024 in
+      let p = slot-has-page c.index c.charges inv slot (omega arith) in
+      let page = place_of (suc slot) c.index in
+      let d : slot * 1024 + i % 1024 ≡ i = omega arith in
+      rw (← d, ← (slot-cell c page slot p.1 (i % 1024) (omega arith))) (f (page * 1024 + i % 1024) (omega (arith, p.0)))
+
+whole-good : (m : Memory) → Whole m → Good m
+whole-good m w = record { fits = w.fits; reads = w.reads; record_bytes = w.record_bytes; array_bytes = w.array_bytes }
+
+good-slots : (m : Memory) → Good m → SlotsOf (cells (chip_in m))
+good-slots m g = (order-in m g).cells.slots
+
+whole-kept : (m : Memory) → Whole m → (qs : List Asked) → Typed qs → Whole (memory_after qs m)
+whole-kept m w qs t =
+    let g = whole-good m w in
+    let f = (followed qs m t g).carried in
+    let full = f.lasts Full full-lasting (used-cells (cells (chip_in m)) (good-slots m g) w.full) in
     record {
-      fits = rw (eq-eqb _ _ a.long, eq-eqb _ _ a.agree.sound.bytes, eq-eqb _ _ a.agree.sound.slots.room);
-      reads = rw a.known;
-      record_bytes = a.bytes;
-      array_bytes = sound-byte a.agree.sound;
-      full = used-full (cells (chip_in m)) a.agree.sound;
+      fits = f.good.fits;
+      reads = f.good.reads;
+      record_bytes = f.good.record_bytes;
+      array_bytes = f.good.array_bytes;
+      full = cells-used (cells (chip_in (memory_after qs m))) (good-slots _ f.good) full;
+    }
+
+-- a new array has none in use
+new-whole : (firmware charges : List ℕ) → Good (new_memory firmware charges) → Whole (new_memory firmware charges)
+unfolding fresh_flash no_pages opened
+new-whole firmware charges g =
+    record {
+      fits = g.fits;
+      reads = g.reads;
+      record_bytes = g.record_bytes;
+      array_bytes = g.array_bytes;
+      full = λ i h.
+          let z : i < opened (no_pages 384) * 1024 = rw (written-reads-back fresh_flash fresh-fits) at h in
+          absurd (omega arith);
     }
 
 reached-whole : (m : Memory) → Reached m → Whole m
 reached-whole m r =
-    let new = start r.firmware r.charges r.firmware_long r.firmware_bytes r.charges_long in
-    subst Whole (sym r.left) (carried-whole _ _ (followed r.calls (new_memory r.firmware r.charges) (fresh_ledger r.firmware) r.typed new).carries)
+    let g = new-good r.firmware r.charges r.firmware_long r.firmware_bytes r.charges_long in
+    subst Whole (sym r.left) (whole-kept (new_memory r.firmware r.charges) (new-whole r.firmware r.charges g) r.calls r.typed)
 
 -- ---- read back
 
@@ -94,6 +130,7 @@ after (q ∷ qs) m m' a =
 pub reached-reads-back : ReachedReadsBack
 reached-reads-back =
     record {
+      kept = whole-kept;
       whole = reached-whole;
       back = λ m m' t r e f g h.
           let w = reached-whole m r in
@@ -102,3 +139,11 @@ reached-reads-back =
       erase_refused = λ m m' t r e f h. snapshots.erase_refused m m' t (reached-whole m r) e f h;
       after = after;
     }
+
+-- ---- from memory that a snapshot was read into
+
+pub read-onward : ReadOnward
+read-onward bytes m t b e =
+    let w = (snapshots.same bytes m t b e).1 in
+    let g = whole-good (memory_read 0 bytes m) w in
+    record { booked = onward.booked _ g; shown = onward.shown _ g; whole = whole-kept _ w }

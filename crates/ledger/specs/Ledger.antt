@@ -11,7 +11,11 @@ use Rattle.registers.specs.Pulses.{pulse}
 use Rattle.registers.specs.Environment.{fresh}
 use Rattle.registers.specs.Calls.{next}
 use Rattle.registers.specs.declared.Pulse.{Pulse}
-use Rattle.settle.specs.Settling.{exposure, ruled, same_pulse, end_words}
+use Rattle.settle.specs.Pages.{cell_at}
+use Rattle.settle.specs.Settling.{exposure, same_pulse, end_words}
+use Rattle.flash.specs.Chip.{registers, cells}
+use Rattle.flash.specs.Looking.{exposed_by}
+use Rattle.lent.specs.Memory.{Memory, chip_in}
 
 -- Every register, latch, supply and time field; each cell's charge; the instant at which the open pulse was opened; and the end events
 -- so far.
@@ -21,10 +25,10 @@ pub record Ledger : Type 0 where
   pub opened : Time
   pub ends : List ℕ
 
--- A pulse is booked once, from the later of opening and ready to now, 0 if negative.
+-- A pulse is booked once, from the later of opening and ready to now, 0 if negative. 0 leaves any charge as it is, one over FULL too.
 unfoldable pub booked : Option Pulse → List ℕ → Time → Time → (ℕ → ℕ) → ℕ → ℕ
 booked None latch opened now charge i = charge i
-booked (Some p) latch opened now charge i = ruled p latch (exposure p opened now) i (charge i)
+booked (Some p) latch opened now charge i = exposed_by p latch (exposure p opened now) i (charge i)
 
 -- Looking at t books the open pulse to t and keeps nothing.
 unfoldable pub look : Time → Ledger → ℕ → ℕ
@@ -51,3 +55,13 @@ entered c now led = entered_if (same_pulse (pulse led.registers) (pulse (next c 
 unfoldable pub fresh_ledger : List ℕ → Ledger
 fresh_ledger firmware =
     record { registers = fresh; charge = λ i. first_charge (bit (at firmware (i / 8)) (i % 8)); opened = instant 0; ends = [] }
+
+-- The ledger of any memory with a good record: its registers, its cells' charges, opened at its last settling.
+unfoldable pub ledger_of : Memory → Ledger
+ledger_of m =
+    record {
+      registers = registers (chip_in m);
+      charge = cell_at (cells (chip_in m));
+      opened = (chip_in m).flash.pulse_since;
+      ends = [];
+    }

@@ -1,26 +1,25 @@
 -- An exposure over all cells: each moves by the rule of one cell, since the range's pages are opened and so no longer read from the array
--- that is sensed anew; and where the array is the sensing of the cells, it stays so. Assumes nothing.
+-- that is sensed anew. It keeps sound slots and an array of bytes; charges that are not past FULL; and, where the array is the sensing of
+-- its cells, that too. Assumes nothing.
 use mathlib.Core.Path.{◌≡◌, refl, ap, sym, ◌∙◌}
 use mathlib.Core.Logic.{◌⊎◌, inl, inr}
 use mathlib.Core.Bool.{Bool, true, false, cond, and-false}
 use mathlib.Core.List.{List}
-use Prim.Native.Nat.{ℕ, zero, suc, ◌+◌, ◌*◌, ◌/◌, ◌%◌, ◌≤◌, ◌<◌, min}
+use Prim.Native.Nat.{ℕ, zero, suc, ◌+◌, ◌*◌, ◌/◌, ◌%◌, ◌≤◌, ◌<◌}
 use native.Mathlib.Omega.{arith}
 use native.Mathlib.Decide.{dec_le, dec_lt}
 use borrow.Author.Tests.{le-leb, lt-leb, lt-ltb, le-ltb}
-use lib.ListN.{length}
-use lib.Dec.{eqb, leb}
+use lib.ListN.{length, get_or-eq_default}
+use lib.Dec.{leb}
 use Rattle.std.specs.Prelude.{Option, Some, None}
 use Rattle.time.specs.declared.Time.{Time}
 use Rattle.time.specs.Raw.{raw}
 use Rattle.time.proofs.Laws.{raw-later}
-use Rattle.cell.specs.declared.Direction.{Direction}
-use Rattle.cell.specs.declared.Direction.TheVariants.{Program, Erase}
 use Rattle.cell.specs.declared.Sense.TheVariants.{Normal}
-use Rattle.cell.specs.Cell.{FULL, at, bit, first_charge, page_bit, moved, exposed}
+use Rattle.cell.specs.Cell.{FULL, at, bit, first_charge, page_bit, exposed}
 use Rattle.cell.proofs.Maps.{length-mapi, get_or-mapi}
 use Rattle.cell.proofs.Rule.{exposures-add, exposed-full}
-use Rattle.cell.proofs.Sensed.{sensed_byte-same}
+use Rattle.cell.proofs.Sensed.{sensed_byte-same, sensed_byte-lt}
 use Rattle.registers.specs.declared.Pulse.{Pulse}
 use Rattle.settle.specs.Pages.{Cells, held, cell_at, on_pages}
 use Rattle.settle.specs.Settling.{exposure, covers, charged, ruled, normal_byte, resensed, expose, settled_by}
@@ -45,6 +44,10 @@ pub normal-same : (f g : ℕ → ℕ) (a : ℕ) → ((k : ℕ) → k < 8 → f (
 unfolding normal_byte
 normal-same f g a h = sensed_byte-same Normal a _ _ h
 
+normal-small : (q : ℕ → ℕ) (a : ℕ) → normal_byte q a < 256
+unfolding normal_byte
+normal-small q a = sensed_byte-lt Normal a (λ k. q (8 * a + k))
+
 -- ---- the range
 
 -- page x in the pulse's range, or not
@@ -63,15 +66,6 @@ whether p x = by (dec_le p.first x) (dec_lt x (p.first + p.pages))
 
 -- ---- the rule
 
-exposed-zero : (d : Direction) (b q : ℕ) → q ≤ FULL → exposed d b 0 q ≡ q
-unfolding exposed moved
-exposed-zero Program b q h = by (eqb b 0)
-  where
-    by : (t : Bool) → cond t (min (q + 100 * 0) FULL) q ≡ q
-    by true = omega arith
-    by false = refl
-exposed-zero Erase b q h = omega arith
-
 module _ (p : Pulse) (latch : List ℕ) where
   pub ruled-yes : (l i q : ℕ) → covers p (i / 1024) ≡ true → ruled p latch l i q ≡ charged p latch l i q
   unfolding ruled
@@ -80,14 +74,6 @@ module _ (p : Pulse) (latch : List ℕ) where
   pub ruled-no : (l i q : ℕ) → covers p (i / 1024) ≡ false → ruled p latch l i q ≡ q
   unfolding ruled
   ruled-no l i q e = rw e
-
-  pub ruled-zero : (i q : ℕ) → q ≤ FULL → ruled p latch 0 i q ≡ q
-  unfolding ruled charged
-  ruled-zero i q h = by (covers p (i / 1024))
-    where
-      by : (b : Bool) → cond b (exposed p.direction (page_bit latch (i % 1024)) 0 q) q ≡ q
-      by true = exposed-zero p.direction (page_bit latch (i % 1024)) q h
-      by false = refl
 
   pub ruled-add : (l m i q : ℕ) → ruled p latch m i (ruled p latch l i q) ≡ ruled p latch (l + m) i q
   unfolding ruled charged
@@ -170,13 +156,6 @@ expose-cell p latch l c inv i h = by (whether p (i / 1024))
         ∙ ap (λ xs. held (at new.index (i / 1024)) xs new.charges i) (sym (pages-array f p.pages p.first c))
         ∙ pages-else f p.pages p.first c inv i g ∙ sym (ruled-no p latch (suc l) i (cell_at c i) e)
 
--- any exposure, 0 too, of a cell that is not past FULL
-pub expose-cell-full : (p : Pulse) (latch : List ℕ) (l : ℕ) (c : Cells) → SlotsOf c → (i : ℕ) → i < 393216 → cell_at c i ≤ FULL
-    → cell_at (expose p latch l c) i ≡ ruled p latch l i (cell_at c i)
-unfolding expose
-expose-cell-full p latch zero c inv i h k = sym (ruled-zero p latch i (cell_at c i) k)
-expose-cell-full p latch (suc l) c inv i h k = expose-cell p latch l c inv i h
-
 -- ---- what a loop over the pages senses
 
 -- after the first n pages of the range, each byte of theirs
@@ -194,40 +173,67 @@ pages-sensed p latch l c inv n h a g k m =
     by (outside e (inl o)) = absurd (omega arith)
     by (outside e (inr o)) = absurd (omega arith)
 
--- ---- cells in order: no charge past FULL, and a stored array that is their sensing
+-- ---- cells in order: sound slots, and an array of its length, of bytes
 
-pub record Sound (c : Cells) : Type 0 where
+pub record Ordered (c : Cells) : Type 0 where
   pub slots : SlotsOf c
-  pub bytes : length c.array ≡ 49152
-  pub full : (i : ℕ) → i < 393216 → cell_at c i ≤ FULL
-  pub sense : (a : ℕ) → a < 49152 → at c.array a ≡ normal_byte (cell_at c) a
+  pub long : length c.array ≡ 49152
+  pub small : (a : ℕ) → at c.array a < 256
 
-pub expose-sound : (p : Pulse) (latch : List ℕ) (l : ℕ) (c : Cells) → Sound c → Sound (expose p latch l c)
+pub expose-ordered : (p : Pulse) (latch : List ℕ) (l : ℕ) (c : Cells) → Ordered c → Ordered (expose p latch l c)
 unfolding expose
-expose-sound p latch zero c inv = inv
-expose-sound p latch (suc l) c inv =
+expose-ordered p latch zero c s = s
+expose-ordered p latch (suc l) c s =
     record {
-      slots = expose-slots p latch (suc l) c inv.slots;
-      bytes = length-resensed p _ c.array ∙ inv.bytes;
-      full = λ i h. rw (cells i h) (ruled-full p latch (suc l) i (cell_at c i) (inv.full i h));
-      sense = λ a h. by a h (whether p (a / 128));
+      slots = expose-slots p latch (suc l) c s.slots;
+      long = length-resensed p rule c.array ∙ s.long;
+      small = λ a. by a (dec_lt a (length c.array)) (whether p (a / 128));
     }
   where
     rule : ℕ → ℕ
     rule i = ruled p latch (suc l) i (cell_at c i)
 
+    by : (a : ℕ) → Dec (a < length c.array) → Where p (a / 128) → at (resensed p rule c.array) a < 256
+    by a d (outside e g) = rw (resensed-else p rule c.array a e) (s.small a)
+    by a (yes h) (inside e g k) = rw (resensed-here p rule c.array a h e) (normal-small rule a)
+    by a (no h) (inside e g k) =
+        let z : at (resensed p rule c.array) a ≡ 0 = get_or-eq_default (resensed p rule c.array) 0 (omega (arith, length-resensed p rule c.array)) in
+        omega arith
+
+-- no charge past FULL
+abbrev pub Full : Cells → Type 0
+Full c = (i : ℕ) → i < 393216 → cell_at c i ≤ FULL
+
+pub expose-full : (p : Pulse) (latch : List ℕ) (l : ℕ) (c : Cells) → SlotsOf c → Full c → Full (expose p latch l c)
+unfolding expose
+expose-full p latch zero c inv f = f
+expose-full p latch (suc l) c inv f =
+    λ i h. rw (expose-cell p latch l c inv i h) (ruled-full p latch (suc l) i (cell_at c i) (f i h))
+
+-- a stored array that is the sensing of its cells
+abbrev pub Senses : Cells → Type 0
+Senses c = (a : ℕ) → a < 49152 → at c.array a ≡ normal_byte (cell_at c) a
+
+pub expose-senses : (p : Pulse) (latch : List ℕ) (l : ℕ) (c : Cells) → Ordered c → Senses c → Senses (expose p latch l c)
+unfolding expose
+expose-senses p latch zero c s n = n
+expose-senses p latch (suc l) c s n = λ a h. by a h (whether p (a / 128))
+  where
+    rule : ℕ → ℕ
+    rule i = ruled p latch (suc l) i (cell_at c i)
+
     cells : (i : ℕ) → i < 393216 → cell_at (expose p latch (suc l) c) i ≡ rule i
-    cells i h = expose-cell p latch l c inv.slots i h
+    cells i h = expose-cell p latch l c s.slots i h
 
     by : (a : ℕ) → a < 49152 → Where p (a / 128) → at (resensed p rule c.array) a ≡ normal_byte (cell_at (expose p latch (suc l) c)) a
     by a h (inside e g k) =
-        resensed-here p rule c.array a (omega (arith, inv.bytes)) e
+        resensed-here p rule c.array a (omega (arith, s.long)) e
         ∙ normal-same rule (cell_at (expose p latch (suc l) c)) a (λ k m. sym (cells (8 * a + k) (omega arith)))
     by a h (outside e g) =
-        resensed-else p rule c.array a e ∙ inv.sense a h
+        resensed-else p rule c.array a e ∙ n a h
         ∙ normal-same (cell_at c) (cell_at (expose p latch (suc l) c)) a
-        (λ k m. let n : (8 * a + k) / 1024 ≡ a / 128 = omega arith in
-        sym (cells (8 * a + k) (omega arith) ∙ ruled-no p latch (suc l) (8 * a + k) (cell_at c (8 * a + k)) (rw n e)))
+        (λ k m. let d : (8 * a + k) / 1024 ≡ a / 128 = omega arith in
+        sym (cells (8 * a + k) (omega arith) ∙ ruled-no p latch (suc l) (8 * a + k) (cell_at c (8 * a + k)) (rw d e)))
 
 -- ---- a settle
 
@@ -242,12 +248,9 @@ module _ (latch : List ℕ) (since now : Time) (c : Cells) where
   settled-array-length None = refl
   settled-array-length (Some p) = expose-array-length p latch (exposure p since now) c
 
-  pub settled-sound : (o : Option Pulse) → Sound c → Sound (settled_by o latch since now c)
+  -- what every exposure keeps of the cells
+  pub settled-keeps : (P : Cells → Type 0) → ((p : Pulse) (l : ℕ) → P (expose p latch l c)) → P c → (o : Option Pulse)
+      → P (settled_by o latch since now c)
   unfolding settled_by
-  settled-sound None inv = inv
-  settled-sound (Some p) inv = expose-sound p latch (exposure p since now) c inv
-
-  pub settled-cell-full : (p : Pulse) → SlotsOf c → (i : ℕ) → i < 393216 → cell_at c i ≤ FULL
-      → cell_at (settled_by (Some p) latch since now c) i ≡ ruled p latch (exposure p since now) i (cell_at c i)
-  unfolding settled_by
-  settled-cell-full p inv i h k = expose-cell-full p latch (exposure p since now) c inv i h k
+  settled-keeps P new old None = old
+  settled-keeps P new old (Some p) = new p (exposure p since now)
