@@ -4,8 +4,8 @@
 ghost use Rattle.std.specs.Prelude.{◌≡◌, ◌<◌};
 ghost use Rattle.refusal.specs.Refusal.{told};
 ghost use Rattle.flash.specs.Chip.{answer_limit};
-ghost use Rattle.lent.specs.Asked.{call_of, outcome, value_of, count_of};
-ghost use Rattle.lent.specs.Views.{memory_at, SameLent, LeavesLent};
+ghost use Rattle.lent.specs.Asked.{call_of, outcome, value_of, count_of, Told};
+ghost use Rattle.lent.specs.Views.{memory_at, SameLent};
 
 use coding::write;
 use lent::checking::call_refusal;
@@ -17,7 +17,7 @@ use refusal::Refusal;
 // Any call: its answer, or why it is refused.
 pub fn ask(memory: &mut LentMut, events: &mut [u64], asking: Asking) -> Result<Answer, Refusal>
     ensures same { SameLent memory.old memory.new }
-    ensures left { LeavesLent (outcome asking.request asking.time events.old (memory_at memory.old)) (told result) (count_of result) memory.new events.new }
+    ensures left { Told (outcome asking.request asking.time events.old (memory_at memory.old)) (told result) (count_of result) (memory_at memory.new) events.new }
     ensures value { value_of result ≡ (outcome asking.request asking.time events.old (memory_at memory.old)).value }
     ensures limit { value_of result < answer_limit (call_of asking.request) }
 {

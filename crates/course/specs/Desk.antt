@@ -127,12 +127,16 @@ left_out w c d = record {
 abbrev pub looked : Manner → ℕ → Looking → Time → ℕ → Desk → Desk
 looked w n l t refusal d = cond (eqb refusal 0) (seen (looked_said n l t d.memory) d) (left_out w (Unseen n (numbered refusal)) d)
 
+-- a look at the flash as the desk has it
+abbrev pub look_done : Manner → ℕ → Looking → Time → Desk → Desk
+look_done w n l t d = looked w n l t (looked_refusal l t d.memory) d
+
 -- ---- lines
 
 abbrev pub line_done : Manner → ℕ → Line → Desk → Desk
 line_done w n line.Nothing d = d
 line_done w n (line.Call t q) d = called w n (record { request = q; time = t }) d
-line_done w n (line.Look t l) d = unless_stopped d (looked w n l t (looked_refusal l t d.memory) d)
+line_done w n (line.Look t l) d = unless_stopped d (look_done w n l t d)
 line_done w n (line.Wrong f) d = unless_stopped d (left_out w (Wrong n f) d)
 
 -- ---- calls that wait, each with the number of its line

@@ -17,7 +17,7 @@ use Rattle.registers.specs.declared.Call.{Call}
 use Rattle.registers.specs.Pulses.{pulse}
 use Rattle.registers.specs.Calls.{settles, next}
 use Rattle.settle.specs.Settling.{range_bytes, changes, settled_by, ends_of, end_words, sensed_by, Left}
-use Rattle.flash.specs.Chip.{Chip, registers, cells, settled_at, step, step_if, sensed_after, settled_answer, stored_answer, answer_limit, Fit, Performed}
+use Rattle.flash.specs.Chip.{Chip, chip, registers, cells, settled_at, step, step_if, sensed_after, settled_answer, stored_answer, answer_limit, Fit, Performed}
 use Rattle.settle.proofs.Stored.{sets-append}
 use Rattle.flash.proofs.Room.{changes-room}
 use Rattle.registers.specs.declared.Pulse.{Pulse}
@@ -52,13 +52,11 @@ module _ (now : Time) (k : Chip) (fit : Fit k) (o : Option Pulse) (open_is : o �
       → {sensed : List ℕ} → sensed ≡ sensed_by (registers k) now (record { index = index; array = array; charges = charges }) k.flash.sensed
       → {value : ℕ} → value ≡ settled_answer c now o (registers k) sensed → value < answer_limit c
       → {kept : List ℕ} → kept ≡ sensed_after c sensed
-      → Performed c now k lent (record { registers = r; pulse_since = now; sensed = kept; indices = index }) array charges events' value count'
+      → Performed c now k lent (chip (record { registers = r; pulse_since = now; sensed = kept; indices = index }) array charges) events' value count'
   unfolding step step_if end_words
   performs c s r n e₁ e₂ e₃ e₄ small e₅ =
       record {
-        flash_is = rw (s, e₅, e₃, n, left.index_is, left.array_is, left.charges_is, open_is);
-        array_is = rw s (left.array_is ∙ rw open_is);
-        charges_is = rw s (left.charges_is ∙ rw open_is);
+        chip_is = rw (s, e₅, e₃, n, left.index_is, left.array_is, left.charges_is, open_is);
         events_are = rw s (e₁ ∙ rw (left.events_are, left.count_is, n, open_is) (sym (rw zero-add at (sets-append lent 0 (changes 0 k.array (settled_at now k).array) (ends c)))));
         value_is = e₄ ∙ rw (e₃, left.index_is, left.array_is, left.charges_is, open_is) (sym (settled-value c now k s));
         value_small = small;
@@ -68,13 +66,11 @@ module _ (now : Time) (k : Chip) (fit : Fit k) (o : Option Pulse) (open_is : o �
 -- a call that does not settle
 pub performs-stored : (c : Call) (now : Time) (k : Chip) (lent : List ℕ) → settles c now (registers k) ≡ false → (r : Registers) → r ≡ next c now (registers k)
     → (value : ℕ) → value ≡ stored_answer c k.array → value < answer_limit c
-    → Performed c now k lent (record { registers = r; pulse_since = k.flash.pulse_since; sensed = k.flash.sensed; indices = k.flash.indices }) k.array k.charges lent value 0
+    → Performed c now k lent (chip (record { registers = r; pulse_since = k.flash.pulse_since; sensed = k.flash.sensed; indices = k.flash.indices }) k.array k.charges) lent value 0
 unfolding step step_if
 performs-stored c now k lent s r n value e small =
     record {
-      flash_is = rw (s, n);
-      array_is = rw s;
-      charges_is = rw s;
+      chip_is = rw (s, n);
       events_are = rw s;
       value_is = e ∙ sym (stored-value c now k s);
       value_small = small;

@@ -25,6 +25,10 @@ pub record Chip : Type 0 where
   pub array : List ℕ
   pub charges : List ℕ
 
+-- a state with what is lent
+abbrev pub chip : Flash → List ℕ → List ℕ → Chip
+chip flash array charges = record { flash = flash; array = array; charges = charges }
+
 abbrev pub registers : Chip → Registers
 registers k = k.flash.registers
 
@@ -179,11 +183,9 @@ pub record Fit (k : Chip) : Type 0 where
   pub pulse_inside : range_end (pulse (registers k)) ≤ pages
   pub sense_inside : sense_address (registers k).verify_pending + 4 ≤ array_bytes
 
--- what an accepted call leaves in lent memory, and answers
-pub record Performed (c : Call) (now : Time) (k : Chip) (lent : List ℕ) (flash : Flash) (array charges events : List ℕ) (value count : ℕ) : Type 0 where
-  pub flash_is : flash ≡ (step c now k).chip.flash
-  pub array_is : array ≡ (step c now k).chip.array
-  pub charges_is : charges ≡ (step c now k).chip.charges
+-- what an accepted call leaves of a chip and in the event words lent, and answers
+pub record Performed (c : Call) (now : Time) (k : Chip) (lent : List ℕ) (left : Chip) (events : List ℕ) (value count : ℕ) : Type 0 where
+  pub chip_is : left ≡ (step c now k).chip
   pub events_are : events ≡ sets lent 0 (step c now k).events
   pub value_is : value ≡ answer c now k
   pub value_small : value < answer_limit c

@@ -1,5 +1,5 @@
 // A flash that is read from lent memory, with what stays lent.
-ghost use Rattle.flash.specs.Chip.{Fit};
+ghost use Rattle.flash.specs.Chip.{chip, Fit};
 
 use crate::Flash;
 use settle::cells::CellsRef;
@@ -11,7 +11,7 @@ pub struct Held<'a> {
     pub flash: Flash,
     pub array: &'a [u8],
     pub charges: &'a [u64],
-    pub ghost fit: { Fit (record { flash = flash; array = array.now; charges = charges.now }) },
+    pub ghost fit: { Fit (chip flash array.now charges.now) },
 }
 
 impl Held<'_> {

@@ -3,9 +3,10 @@ ghost use Rattle.std.specs.Prelude.{◌≡◌, ◌<◌};
 ghost use Rattle.refusal.specs.Refusal.{told};
 ghost use Rattle.flash.specs.Chip.{answer_limit};
 ghost use Rattle.lent.specs.declared.Request.TheVariants.{WriteRegister, Write8, Read8, Read16, Protect, Reset, PowerOff, Environment};
+ghost use Rattle.lent.specs.Memory.{lent, moment};
 ghost use Rattle.lent.specs.Asked.{call_of, outcome, value_of, Told};
 ghost use Rattle.lent.specs.Looked.{answered};
-ghost use Rattle.lent.specs.Views.{memory_at, SameLent, LeavesLent};
+ghost use Rattle.lent.specs.Views.{memory_at, SameLent};
 
 use ask::ask;
 use lent::memory::LentMut;
@@ -21,7 +22,7 @@ fn called(
     count: &mut u64,
 ) -> Result<Answer, Refusal>
     ensures same { SameLent memory.old memory.new }
-    ensures left { LeavesLent (outcome asking.request asking.time events.old (memory_at memory.old)) (told result) count.new memory.new events.new }
+    ensures left { Told (outcome asking.request asking.time events.old (memory_at memory.old)) (told result) count.new (memory_at memory.new) events.new }
     ensures value { value_of result ≡ (outcome asking.request asking.time events.old (memory_at memory.old)).value }
     ensures limit { value_of result < answer_limit (call_of asking.request) }
 {
@@ -43,7 +44,7 @@ pub extern "C" fn flash_write_register(
     fraction: u64,
     count: &mut u64,
 ) -> u32
-    ensures { Told (outcome (WriteRegister address value) (record { 0 = seconds; 1 = fraction }) events.old (record { bytes = «record».old; array = array.old; charges = charges.old })) result count.new «record».new array.new charges.new events.new }
+    ensures { Told (outcome (WriteRegister address value) (moment seconds fraction) events.old (lent «record».old array.old charges.old)) result count.new (lent «record».new array.new charges.new) events.new }
 {
     let mut memory = LentMut {
         record,
@@ -74,7 +75,7 @@ pub extern "C" fn flash_write8(
     fraction: u64,
     count: &mut u64,
 ) -> u32
-    ensures { Told (outcome (Write8 address value) (record { 0 = seconds; 1 = fraction }) events.old (record { bytes = «record».old; array = array.old; charges = charges.old })) result count.new «record».new array.new charges.new events.new }
+    ensures { Told (outcome (Write8 address value) (moment seconds fraction) events.old (lent «record».old array.old charges.old)) result count.new (lent «record».new array.new charges.new) events.new }
 {
     let mut memory = LentMut {
         record,
@@ -105,7 +106,8 @@ pub extern "C" fn flash_read8(
     value: &mut u8,
     count: &mut u64,
 ) -> u32
-    ensures { Told (outcome (Read8 address) (record { 0 = seconds; 1 = fraction }) events.old (record { bytes = «record».old; array = array.old; charges = charges.old })) result count.new «record».new array.new charges.new events.new × (value.new ≡ answered result (outcome (Read8 address) (record { 0 = seconds; 1 = fraction }) events.old (record { bytes = «record».old; array = array.old; charges = charges.old })).value value.old) }
+    ensures told { Told (outcome (Read8 address) (moment seconds fraction) events.old (lent «record».old array.old charges.old)) result count.new (lent «record».new array.new charges.new) events.new }
+    ensures value { value.new ≡ answered result (outcome (Read8 address) (moment seconds fraction) events.old (lent «record».old array.old charges.old)).value value.old }
 {
     let mut memory = LentMut {
         record,
@@ -137,7 +139,8 @@ pub extern "C" fn flash_read16(
     value: &mut u16,
     count: &mut u64,
 ) -> u32
-    ensures { Told (outcome (Read16 address) (record { 0 = seconds; 1 = fraction }) events.old (record { bytes = «record».old; array = array.old; charges = charges.old })) result count.new «record».new array.new charges.new events.new × (value.new ≡ answered result (outcome (Read16 address) (record { 0 = seconds; 1 = fraction }) events.old (record { bytes = «record».old; array = array.old; charges = charges.old })).value value.old) }
+    ensures told { Told (outcome (Read16 address) (moment seconds fraction) events.old (lent «record».old array.old charges.old)) result count.new (lent «record».new array.new charges.new) events.new }
+    ensures value { value.new ≡ answered result (outcome (Read16 address) (moment seconds fraction) events.old (lent «record».old array.old charges.old)).value value.old }
 {
     let mut memory = LentMut {
         record,
@@ -167,7 +170,7 @@ pub extern "C" fn flash_protect(
     fraction: u64,
     count: &mut u64,
 ) -> u32
-    ensures { Told (outcome Protect (record { 0 = seconds; 1 = fraction }) events.old (record { bytes = «record».old; array = array.old; charges = charges.old })) result count.new «record».new array.new charges.new events.new }
+    ensures { Told (outcome Protect (moment seconds fraction) events.old (lent «record».old array.old charges.old)) result count.new (lent «record».new array.new charges.new) events.new }
 {
     let mut memory = LentMut {
         record,
@@ -196,7 +199,7 @@ pub extern "C" fn flash_reset(
     fraction: u64,
     count: &mut u64,
 ) -> u32
-    ensures { Told (outcome Reset (record { 0 = seconds; 1 = fraction }) events.old (record { bytes = «record».old; array = array.old; charges = charges.old })) result count.new «record».new array.new charges.new events.new }
+    ensures { Told (outcome Reset (moment seconds fraction) events.old (lent «record».old array.old charges.old)) result count.new (lent «record».new array.new charges.new) events.new }
 {
     let mut memory = LentMut {
         record,
@@ -225,7 +228,7 @@ pub extern "C" fn flash_power_off(
     fraction: u64,
     count: &mut u64,
 ) -> u32
-    ensures { Told (outcome PowerOff (record { 0 = seconds; 1 = fraction }) events.old (record { bytes = «record».old; array = array.old; charges = charges.old })) result count.new «record».new array.new charges.new events.new }
+    ensures { Told (outcome PowerOff (moment seconds fraction) events.old (lent «record».old array.old charges.old)) result count.new (lent «record».new array.new charges.new) events.new }
 {
     let mut memory = LentMut {
         record,
@@ -257,7 +260,7 @@ pub extern "C" fn flash_environment(
     fraction: u64,
     count: &mut u64,
 ) -> u32
-    ensures { Told (outcome (Environment mode «module» oscillator) (record { 0 = seconds; 1 = fraction }) events.old (record { bytes = «record».old; array = array.old; charges = charges.old })) result count.new «record».new array.new charges.new events.new }
+    ensures { Told (outcome (Environment mode «module» oscillator) (moment seconds fraction) events.old (lent «record».old array.old charges.old)) result count.new (lent «record».new array.new charges.new) events.new }
 {
     let mut memory = LentMut {
         record,

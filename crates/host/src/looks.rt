@@ -3,6 +3,7 @@
 
 ghost use Rattle.std.specs.Prelude.{◌≡◌, length};
 ghost use Rattle.layout.specs.Layout.{record_length};
+ghost use Rattle.lent.specs.Memory.{lent, moment};
 ghost use Rattle.lent.specs.Looked.{answered, register_refusal, register_answer, normal_refusal, normal_answer, peek_refusal, peek_answer, charge_refusal, charge_answer, blank_refusal, blank_answer, image_refusal, image_left, new_refusal, new_record, new_array};
 
 use layout::RECORD_LEN;
@@ -28,7 +29,9 @@ pub extern "C" fn flash_new(
     array: &mut [u8],
     charges: &[u64],
 ) -> u32
-    ensures { (result ≡ new_refusal firmware.now (length «record».old) (length array.old) (length charges.now)) × («record».new ≡ new_record result «record».old) × (array.new ≡ new_array result firmware.now array.old) }
+    ensures number { result ≡ new_refusal firmware.now (length «record».old) (length array.old) (length charges.now) }
+    ensures bytes { «record».new ≡ new_record result «record».old }
+    ensures array { array.new ≡ new_array result firmware.now array.old }
 {
     told(make(firmware, record, array, charges.len()))
 }
@@ -36,7 +39,8 @@ pub extern "C" fn flash_new(
 // A register as reading shows it.
 #[unsafe(no_mangle)]
 pub extern "C" fn flash_register(record: &[u8], address: u16, value: &mut u8) -> u32
-    ensures { (result ≡ register_refusal «record».now) × (value.new ≡ answered result (register_answer «record».now address) value.old) }
+    ensures number { result ≡ register_refusal «record».now }
+    ensures value { value.new ≡ answered result (register_answer «record».now address) value.old }
 {
     told_into(see_register(record, address), value)
 }
@@ -45,7 +49,8 @@ pub extern "C" fn flash_register(record: &[u8], address: u16, value: &mut u8) ->
 #[tactic(auto, using(crate::proofs::Answered::placed), unfolding(lent::specs::Looked::normal_answer))]
 #[unsafe(no_mangle)]
 pub extern "C" fn flash_normal(record: &[u8], seconds: u64, fraction: u64, normal: &mut u8) -> u32
-    ensures { (result ≡ normal_refusal «record».now (record { 0 = seconds; 1 = fraction })) × (normal.new ≡ answered result (normal_answer «record».now (record { 0 = seconds; 1 = fraction })) normal.old) }
+    ensures number { result ≡ normal_refusal «record».now (moment seconds fraction) }
+    ensures normal { normal.new ≡ answered result (normal_answer «record».now (moment seconds fraction)) normal.old }
 {
     told_into(see_normal(record, Time(seconds, fraction)), normal)
 }
@@ -61,7 +66,8 @@ pub extern "C" fn flash_peek(
     fraction: u64,
     value: &mut u8,
 ) -> u32
-    ensures { (result ≡ peek_refusal address (record { 0 = seconds; 1 = fraction }) (record { bytes = «record».now; array = array.now; charges = charges.now })) × (value.new ≡ answered result (peek_answer address (record { 0 = seconds; 1 = fraction }) (record { bytes = «record».now; array = array.now; charges = charges.now })) value.old) }
+    ensures number { result ≡ peek_refusal address (moment seconds fraction) (lent «record».now array.now charges.now) }
+    ensures value { value.new ≡ answered result (peek_answer address (moment seconds fraction) (lent «record».now array.now charges.now)) value.old }
 {
     let lent = Lent {
         record,
@@ -83,7 +89,8 @@ pub extern "C" fn flash_cell_charge(
     fraction: u64,
     charge: &mut u64,
 ) -> u32
-    ensures { (result ≡ charge_refusal address bit (record { 0 = seconds; 1 = fraction }) (record { bytes = «record».now; array = array.now; charges = charges.now })) × (charge.new ≡ answered result (charge_answer address bit (record { 0 = seconds; 1 = fraction }) (record { bytes = «record».now; array = array.now; charges = charges.now })) charge.old) }
+    ensures number { result ≡ charge_refusal address bit (moment seconds fraction) (lent «record».now array.now charges.now) }
+    ensures charge { charge.new ≡ answered result (charge_answer address bit (moment seconds fraction) (lent «record».now array.now charges.now)) charge.old }
 {
     let lent = Lent {
         record,
@@ -108,7 +115,8 @@ pub extern "C" fn flash_blank_page(
     fraction: u64,
     blank: &mut u8,
 ) -> u32
-    ensures { (result ≡ blank_refusal address (record { 0 = seconds; 1 = fraction }) (record { bytes = «record».now; array = array.now; charges = charges.now })) × (blank.new ≡ answered result (blank_answer address (record { 0 = seconds; 1 = fraction }) (record { bytes = «record».now; array = array.now; charges = charges.now })) blank.old) }
+    ensures number { result ≡ blank_refusal address (moment seconds fraction) (lent «record».now array.now charges.now) }
+    ensures blank { blank.new ≡ answered result (blank_answer address (moment seconds fraction) (lent «record».now array.now charges.now)) blank.old }
 {
     let lent = Lent {
         record,
@@ -128,7 +136,8 @@ pub extern "C" fn flash_image(
     fraction: u64,
     out: &mut [u8],
 ) -> u32
-    ensures { (result ≡ image_refusal (record { 0 = seconds; 1 = fraction }) (length out.old) (record { bytes = «record».now; array = array.now; charges = charges.now })) × (out.new ≡ image_left result (record { 0 = seconds; 1 = fraction }) (record { bytes = «record».now; array = array.now; charges = charges.now }) out.old) }
+    ensures number { result ≡ image_refusal (moment seconds fraction) (length out.old) (lent «record».now array.now charges.now) }
+    ensures out { out.new ≡ image_left result (moment seconds fraction) (lent «record».now array.now charges.now) out.old }
 {
     let lent = Lent {
         record,

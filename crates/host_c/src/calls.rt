@@ -1,6 +1,7 @@
 // The ledger's calls.
 ghost use Rattle.std.specs.Prelude.{◌≡◌};
 ghost use Rattle.lent.specs.declared.Request.TheVariants.{WriteRegister, Write8, Read8, Read16, Protect, Reset, PowerOff, Environment};
+ghost use Rattle.lent.specs.Memory.{lent, moment};
 ghost use Rattle.lent.specs.Asked.{outcome, Told};
 ghost use Rattle.lent.specs.Looked.{answered};
 
@@ -17,7 +18,7 @@ pub extern "C" fn flash_write_register(
     fraction: u64,
     count: &mut u64,
 ) -> u32
-    ensures { Told (outcome (WriteRegister address value) (record { 0 = seconds; 1 = fraction }) events.old (record { bytes = «record».old; array = array.old; charges = charges.old })) result count.new «record».new array.new charges.new events.new }
+    ensures { Told (outcome (WriteRegister address value) (moment seconds fraction) events.old (lent «record».old array.old charges.old)) result count.new (lent «record».new array.new charges.new) events.new }
 {
     host::calls::flash_write_register(
         record, array, charges, events, address, value, seconds, fraction, count,
@@ -37,7 +38,7 @@ pub extern "C" fn flash_write8(
     fraction: u64,
     count: &mut u64,
 ) -> u32
-    ensures { Told (outcome (Write8 address value) (record { 0 = seconds; 1 = fraction }) events.old (record { bytes = «record».old; array = array.old; charges = charges.old })) result count.new «record».new array.new charges.new events.new }
+    ensures { Told (outcome (Write8 address value) (moment seconds fraction) events.old (lent «record».old array.old charges.old)) result count.new (lent «record».new array.new charges.new) events.new }
 {
     host::calls::flash_write8(
         record, array, charges, events, address, value, seconds, fraction, count,
@@ -57,7 +58,8 @@ pub extern "C" fn flash_read8(
     value: &mut u8,
     count: &mut u64,
 ) -> u32
-    ensures { Told (outcome (Read8 address) (record { 0 = seconds; 1 = fraction }) events.old (record { bytes = «record».old; array = array.old; charges = charges.old })) result count.new «record».new array.new charges.new events.new × (value.new ≡ answered result (outcome (Read8 address) (record { 0 = seconds; 1 = fraction }) events.old (record { bytes = «record».old; array = array.old; charges = charges.old })).value value.old) }
+    ensures told { Told (outcome (Read8 address) (moment seconds fraction) events.old (lent «record».old array.old charges.old)) result count.new (lent «record».new array.new charges.new) events.new }
+    ensures value { value.new ≡ answered result (outcome (Read8 address) (moment seconds fraction) events.old (lent «record».old array.old charges.old)).value value.old }
 {
     host::calls::flash_read8(
         record, array, charges, events, address, seconds, fraction, value, count,
@@ -77,7 +79,8 @@ pub extern "C" fn flash_read16(
     value: &mut u16,
     count: &mut u64,
 ) -> u32
-    ensures { Told (outcome (Read16 address) (record { 0 = seconds; 1 = fraction }) events.old (record { bytes = «record».old; array = array.old; charges = charges.old })) result count.new «record».new array.new charges.new events.new × (value.new ≡ answered result (outcome (Read16 address) (record { 0 = seconds; 1 = fraction }) events.old (record { bytes = «record».old; array = array.old; charges = charges.old })).value value.old) }
+    ensures told { Told (outcome (Read16 address) (moment seconds fraction) events.old (lent «record».old array.old charges.old)) result count.new (lent «record».new array.new charges.new) events.new }
+    ensures value { value.new ≡ answered result (outcome (Read16 address) (moment seconds fraction) events.old (lent «record».old array.old charges.old)).value value.old }
 {
     host::calls::flash_read16(
         record, array, charges, events, address, seconds, fraction, value, count,
@@ -95,7 +98,7 @@ pub extern "C" fn flash_protect(
     fraction: u64,
     count: &mut u64,
 ) -> u32
-    ensures { Told (outcome Protect (record { 0 = seconds; 1 = fraction }) events.old (record { bytes = «record».old; array = array.old; charges = charges.old })) result count.new «record».new array.new charges.new events.new }
+    ensures { Told (outcome Protect (moment seconds fraction) events.old (lent «record».old array.old charges.old)) result count.new (lent «record».new array.new charges.new) events.new }
 {
     host::calls::flash_protect(record, array, charges, events, seconds, fraction, count)
 }
@@ -111,7 +114,7 @@ pub extern "C" fn flash_reset(
     fraction: u64,
     count: &mut u64,
 ) -> u32
-    ensures { Told (outcome Reset (record { 0 = seconds; 1 = fraction }) events.old (record { bytes = «record».old; array = array.old; charges = charges.old })) result count.new «record».new array.new charges.new events.new }
+    ensures { Told (outcome Reset (moment seconds fraction) events.old (lent «record».old array.old charges.old)) result count.new (lent «record».new array.new charges.new) events.new }
 {
     host::calls::flash_reset(record, array, charges, events, seconds, fraction, count)
 }
@@ -127,7 +130,7 @@ pub extern "C" fn flash_power_off(
     fraction: u64,
     count: &mut u64,
 ) -> u32
-    ensures { Told (outcome PowerOff (record { 0 = seconds; 1 = fraction }) events.old (record { bytes = «record».old; array = array.old; charges = charges.old })) result count.new «record».new array.new charges.new events.new }
+    ensures { Told (outcome PowerOff (moment seconds fraction) events.old (lent «record».old array.old charges.old)) result count.new (lent «record».new array.new charges.new) events.new }
 {
     host::calls::flash_power_off(record, array, charges, events, seconds, fraction, count)
 }
@@ -146,7 +149,7 @@ pub extern "C" fn flash_environment(
     fraction: u64,
     count: &mut u64,
 ) -> u32
-    ensures { Told (outcome (Environment mode «module» oscillator) (record { 0 = seconds; 1 = fraction }) events.old (record { bytes = «record».old; array = array.old; charges = charges.old })) result count.new «record».new array.new charges.new events.new }
+    ensures { Told (outcome (Environment mode «module» oscillator) (moment seconds fraction) events.old (lent «record».old array.old charges.old)) result count.new (lent «record».new array.new charges.new) events.new }
 {
     host::calls::flash_environment(
         record, array, charges, events, mode, module, oscillator, seconds, fraction, count,

@@ -1,6 +1,7 @@
 // Looking, and a new array: nothing changes but the output, or what is made.
 ghost use Rattle.std.specs.Prelude.{◌≡◌, length};
 ghost use Rattle.layout.specs.Layout.{record_length};
+ghost use Rattle.lent.specs.Memory.{lent, moment};
 ghost use Rattle.lent.specs.Looked.{answered, register_refusal, register_answer, normal_refusal, normal_answer, peek_refusal, peek_answer, charge_refusal, charge_answer, blank_refusal, blank_answer, image_refusal, image_left, new_refusal, new_record, new_array};
 
 // How many bytes a record has.
@@ -19,7 +20,9 @@ pub extern "C" fn flash_new(
     array: &mut [u8],
     charges: &[u64],
 ) -> u32
-    ensures { (result ≡ new_refusal firmware.now (length «record».old) (length array.old) (length charges.now)) × («record».new ≡ new_record result «record».old) × (array.new ≡ new_array result firmware.now array.old) }
+    ensures number { result ≡ new_refusal firmware.now (length «record».old) (length array.old) (length charges.now) }
+    ensures bytes { «record».new ≡ new_record result «record».old }
+    ensures array { array.new ≡ new_array result firmware.now array.old }
 {
     host::looks::flash_new(firmware, record, array, charges)
 }
@@ -27,7 +30,8 @@ pub extern "C" fn flash_new(
 // A register as reading shows it.
 #[unsafe(no_mangle)]
 pub extern "C" fn flash_register(record: &[u8], address: u16, value: &mut u8) -> u32
-    ensures { (result ≡ register_refusal «record».now) × (value.new ≡ answered result (register_answer «record».now address) value.old) }
+    ensures number { result ≡ register_refusal «record».now }
+    ensures value { value.new ≡ answered result (register_answer «record».now address) value.old }
 {
     host::looks::flash_register(record, address, value)
 }
@@ -35,7 +39,8 @@ pub extern "C" fn flash_register(record: &[u8], address: u16, value: &mut u8) ->
 // Whether reading is normal at a time.
 #[unsafe(no_mangle)]
 pub extern "C" fn flash_normal(record: &[u8], seconds: u64, fraction: u64, normal: &mut u8) -> u32
-    ensures { (result ≡ normal_refusal «record».now (record { 0 = seconds; 1 = fraction })) × (normal.new ≡ answered result (normal_answer «record».now (record { 0 = seconds; 1 = fraction })) normal.old) }
+    ensures number { result ≡ normal_refusal «record».now (moment seconds fraction) }
+    ensures normal { normal.new ≡ answered result (normal_answer «record».now (moment seconds fraction)) normal.old }
 {
     host::looks::flash_normal(record, seconds, fraction, normal)
 }
@@ -51,7 +56,8 @@ pub extern "C" fn flash_peek(
     fraction: u64,
     value: &mut u8,
 ) -> u32
-    ensures { (result ≡ peek_refusal address (record { 0 = seconds; 1 = fraction }) (record { bytes = «record».now; array = array.now; charges = charges.now })) × (value.new ≡ answered result (peek_answer address (record { 0 = seconds; 1 = fraction }) (record { bytes = «record».now; array = array.now; charges = charges.now })) value.old) }
+    ensures number { result ≡ peek_refusal address (moment seconds fraction) (lent «record».now array.now charges.now) }
+    ensures value { value.new ≡ answered result (peek_answer address (moment seconds fraction) (lent «record».now array.now charges.now)) value.old }
 {
     host::looks::flash_peek(record, array, charges, address, seconds, fraction, value)
 }
@@ -68,7 +74,8 @@ pub extern "C" fn flash_cell_charge(
     fraction: u64,
     charge: &mut u64,
 ) -> u32
-    ensures { (result ≡ charge_refusal address bit (record { 0 = seconds; 1 = fraction }) (record { bytes = «record».now; array = array.now; charges = charges.now })) × (charge.new ≡ answered result (charge_answer address bit (record { 0 = seconds; 1 = fraction }) (record { bytes = «record».now; array = array.now; charges = charges.now })) charge.old) }
+    ensures number { result ≡ charge_refusal address bit (moment seconds fraction) (lent «record».now array.now charges.now) }
+    ensures charge { charge.new ≡ answered result (charge_answer address bit (moment seconds fraction) (lent «record».now array.now charges.now)) charge.old }
 {
     host::looks::flash_cell_charge(
         record, array, charges, address, bit, seconds, fraction, charge,
@@ -86,7 +93,8 @@ pub extern "C" fn flash_blank_page(
     fraction: u64,
     blank: &mut u8,
 ) -> u32
-    ensures { (result ≡ blank_refusal address (record { 0 = seconds; 1 = fraction }) (record { bytes = «record».now; array = array.now; charges = charges.now })) × (blank.new ≡ answered result (blank_answer address (record { 0 = seconds; 1 = fraction }) (record { bytes = «record».now; array = array.now; charges = charges.now })) blank.old) }
+    ensures number { result ≡ blank_refusal address (moment seconds fraction) (lent «record».now array.now charges.now) }
+    ensures blank { blank.new ≡ answered result (blank_answer address (moment seconds fraction) (lent «record».now array.now charges.now)) blank.old }
 {
     host::looks::flash_blank_page(record, array, charges, address, seconds, fraction, blank)
 }
@@ -101,7 +109,8 @@ pub extern "C" fn flash_image(
     fraction: u64,
     out: &mut [u8],
 ) -> u32
-    ensures { (result ≡ image_refusal (record { 0 = seconds; 1 = fraction }) (length out.old) (record { bytes = «record».now; array = array.now; charges = charges.now })) × (out.new ≡ image_left result (record { 0 = seconds; 1 = fraction }) (record { bytes = «record».now; array = array.now; charges = charges.now }) out.old) }
+    ensures number { result ≡ image_refusal (moment seconds fraction) (length out.old) (lent «record».now array.now charges.now) }
+    ensures out { out.new ≡ image_left result (moment seconds fraction) (lent «record».now array.now charges.now) out.old }
 {
     host::looks::flash_image(record, array, charges, seconds, fraction, out)
 }

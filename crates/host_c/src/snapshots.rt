@@ -1,14 +1,15 @@
 // Snapshots: a state handed on as one string of bytes, and whether a state is valid.
 ghost use Rattle.std.specs.Prelude.{◌≡◌, length};
-ghost use Rattle.lent.specs.Memory.{chip_in};
+ghost use Rattle.lent.specs.Memory.{lent, moment, chip_in};
 ghost use Rattle.lent.specs.Looked.{answered};
 ghost use Rattle.snapshot.specs.Snapshot.{snapshot_of};
-ghost use Rattle.snapshot.specs.Asked.{valid_refusal, valid_answer, write_refusal, written_out, read_refusal, memory_read, Left};
+ghost use Rattle.snapshot.specs.Asked.{valid_refusal, valid_answer, write_refusal, written_out, read_refusal, memory_read};
 
 // Whether a record's state is valid at a time.
 #[unsafe(no_mangle)]
 pub extern "C" fn flash_validate(record: &[u8], seconds: u64, fraction: u64, valid: &mut u8) -> u32
-    ensures { (result ≡ valid_refusal «record».now (record { 0 = seconds; 1 = fraction })) × (valid.new ≡ answered result (valid_answer «record».now (record { 0 = seconds; 1 = fraction })) valid.old) }
+    ensures number { result ≡ valid_refusal «record».now (moment seconds fraction) }
+    ensures valid { valid.new ≡ answered result (valid_answer «record».now (moment seconds fraction)) valid.old }
 {
     host::snapshots::flash_validate(record, seconds, fraction, valid)
 }
@@ -22,7 +23,9 @@ pub extern "C" fn flash_write_snapshot(
     out: &mut [u8],
     len: &mut u64,
 ) -> u32
-    ensures { (result ≡ write_refusal (length out.old) (record { bytes = «record».now; array = array.now; charges = charges.now })) × (out.new ≡ written_out result (record { bytes = «record».now; array = array.now; charges = charges.now }) out.old) × (len.new ≡ answered result (length (snapshot_of (chip_in (record { bytes = «record».now; array = array.now; charges = charges.now })))) len.old) }
+    ensures number { result ≡ write_refusal (length out.old) (lent «record».now array.now charges.now) }
+    ensures out { out.new ≡ written_out result (lent «record».now array.now charges.now) out.old }
+    ensures len { len.new ≡ answered result (length (snapshot_of (chip_in (lent «record».now array.now charges.now)))) len.old }
 {
     host::snapshots::flash_write_snapshot(record, array, charges, out, len)
 }
@@ -37,7 +40,8 @@ pub extern "C" fn flash_read_snapshot(
     seconds: u64,
     fraction: u64,
 ) -> u32
-    ensures { (result ≡ read_refusal (record { 0 = seconds; 1 = fraction }) bytes.entry.now (record { bytes = «record».old; array = array.old; charges = charges.old })) × Left (memory_read result bytes.entry.now (record { bytes = «record».old; array = array.old; charges = charges.old })) «record».new array.new charges.new }
+    ensures number { result ≡ read_refusal (moment seconds fraction) bytes.entry.now (lent «record».old array.old charges.old) }
+    ensures left { lent «record».new array.new charges.new ≡ memory_read result bytes.entry.now (lent «record».old array.old charges.old) }
 {
     host::snapshots::flash_read_snapshot(bytes, record, array, charges, seconds, fraction)
 }

@@ -18,7 +18,7 @@ use Rattle.settle.proofs.Expose.{Full}
 use Rattle.flash.specs.Chip.{cells, no_pages, fresh_flash}
 use Rattle.layout.specs.Layout.{decoded}
 use Rattle.layout.proofs.Back.{decoded-index, written-reads-back}
-use Rattle.lent.specs.Memory.{Memory, chip_in, misfits}
+use Rattle.lent.specs.Memory.{Memory, lent, chip_in, misfits}
 use Rattle.lent.proofs.Fitted.{sizes-fit}
 use Rattle.snapshot.specs.Snapshot.{place_of}
 use Rattle.snapshot.specs.Asked.{memory_read}
@@ -98,7 +98,7 @@ reached-whole m r =
 
 -- memory that a snapshot was read into is like the original
 read_alike : (m m' : Memory) → Whole m → misfits m' ≡ false
-    → Alike m (record { bytes = m.bytes; array = m.array; charges = sets m'.charges 0 (take (in_use m) m.charges) })
+    → Alike m (lent m.bytes m.array (sets m'.charges 0 (take (in_use m) m.charges)))
 read_alike m m' w e =
     let a = sizes-fit (length m.bytes) (length m.array) (length m.charges) w.fits in
     let b = sizes-fit (length m'.bytes) (length m'.array) (length m'.charges) e in

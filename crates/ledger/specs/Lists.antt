@@ -8,7 +8,7 @@ use Rattle.layout.specs.Layout.{encoded}
 use Rattle.layout.specs.Whole.{TimeFits}
 use Rattle.lent.specs.declared.Request.{Request}
 use Rattle.lent.specs.declared.Request.TheVariants.{WriteRegister, Write8, Read8, Read16, Protect, Reset, PowerOff, Environment}
-use Rattle.lent.specs.Memory.{Memory}
+use Rattle.lent.specs.Memory.{Memory, lent}
 use Rattle.lent.specs.Asked.{Outcome, call_of, outcome}
 use Rattle.ledger.specs.Ledger.{Ledger, entered}
 
@@ -38,7 +38,7 @@ Typed (q ∷ qs) = Numbers q.request × TimeFits q.time × Typed qs
 
 -- The first call gets record, array and charges as `new` left them, for any charge store; each later one as the call before did.
 abbrev pub new_memory : List ℕ → List ℕ → Memory
-new_memory firmware charges = record { bytes = encoded fresh_flash; array = firmware; charges = charges }
+new_memory firmware charges = lent (encoded fresh_flash) firmware charges
 
 unfoldable pub memory_after : List Asked → Memory → Memory
 memory_after [] m = m

@@ -13,7 +13,7 @@ use Rattle.std.specs.Prelude.{Option, Some, None}
 use Rattle.settle.specs.Settling.{sense_address}
 use Rattle.flash.specs.declared.Flash.{Flash}
 use Rattle.flash.specs.declared.held.Held.{Held}
-use Rattle.flash.specs.Chip.{Chip, Fit}
+use Rattle.flash.specs.Chip.{Chip, chip, Fit}
 use Rattle.flash.specs.Views.{chip_of}
 use Rattle.layout.specs.Layout.{record_length, accepted, decoded}
 use Rattle.layout.specs.Whole.{PendingSound}
@@ -57,7 +57,7 @@ fitted m s a =
 
 -- with the lengths, the state of a record that is not refused fits
 pub opens : (m : Memory) (s : Flash) → misfits m ≡ false → register_refusal m.bytes ≡ 0 → s ≡ decoded m.bytes
-    → Fit (record { flash = s; array = m.array; charges = m.charges })
+    → Fit (chip s m.array m.charges)
 unfolding register_refusal
 opens m s e z d =
     let sizes = sizes-fit (length m.bytes) (length m.array) (length m.charges) e in
@@ -71,7 +71,7 @@ opens m s e z d =
 -- what holds of a flash that was opened in some memory
 pub record Holds (held : Held) (m : Memory) : Type 0 where
   pub flash_is : held.flash ≡ decoded m.bytes
-  pub fits : Fit (record { flash = held.flash; array = m.array; charges = m.charges })
+  pub fits : Fit (chip held.flash m.array m.charges)
 
 pub holds : (held : Held) (seen m : Memory) → seen ≡ m → chip_of held ≡ chip_in seen → Holds held m
 holds held seen m s e =

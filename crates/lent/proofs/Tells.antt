@@ -19,13 +19,13 @@ use Rattle.registers.specs.Pulses.{pulse}
 use Rattle.registers.specs.Calls.{settles}
 use Rattle.flash.specs.declared.Flash.{Flash}
 use Rattle.settle.specs.Settling.{range_bytes}
-use Rattle.flash.specs.Chip.{placed, answer_limit, Performed}
+use Rattle.flash.specs.Chip.{chip, placed, answer_limit, Performed}
 use Rattle.layout.specs.Layout.{encoded, decoded}
 use Rattle.lent.specs.declared.Request.{Request}
 use Rattle.lent.specs.declared.Request.TheVariants.{WriteRegister, Write8, Read8, Read16, Protect, Reset, PowerOff, Environment}
 use Rattle.lent.proofs.Lines.{given-first, given-after}
 use Rattle.lent.specs.Looked.{memory_checks, memory_refusal}
-use Rattle.lent.specs.Memory.{Memory, chip_in, last_second, too_early, too_few_words}
+use Rattle.lent.specs.Memory.{Memory, chip_in, memory_of, last_second, too_early, too_few_words}
 use Rattle.lent.specs.Asked.{call_of, misplaced, call_checks, call_refusal, refusal, outcome, outcome_by, Told}
 
 -- no answer is a byte
@@ -76,14 +76,14 @@ passes q now words s e =
 abbrev Tells : Request → Time → List ℕ → Memory → ℕ → ℕ → ℕ → Memory → List ℕ → Type 0
 Tells q now lent m number value count left events =
     let o = outcome q now lent m in
-    Told o number count left.bytes left.array left.charges events × (value ≡ o.value) × (value < answer_limit (call_of q))
+    Told o number count left events × (value ≡ o.value) × (value < answer_limit (call_of q))
 
 module _ (q : Request) (now : Time) (lent : List ℕ) (m : Memory) where
   refused : (n : ℕ) → refusal q now (length lent) m ≡ n → 1 ≤ n → Tells q now lent m n 0 0 m lent
   unfolding outcome outcome_by
   refused zero e h = absurd (omega arith)
   refused (suc n) e h =
-      (record { number_is = rw e; count_is = rw e; record_is = rw e; array_is = rw e; charges_are = rw e; events_are = rw e }, rw e, limit-above (call_of q))
+      (record { number_is = rw e; count_is = rw e; memory_is = rw e; events_are = rw e }, rw e, limit-above (call_of q))
 
   -- by the checks of memory
   pub told-first : (r : Refusal) → number r ≡ memory_refusal m → Tells q now lent m (number r) 0 0 m lent
@@ -101,7 +101,7 @@ module _ (q : Request) (now : Time) (lent : List ℕ) (m : Memory) where
     told-later r g = refused (number r) (later ∙ sym g) (number-some r)
 
     pub told-done : 0 ≡ call_refusal q now (length lent) (decoded m.bytes) → {flash : Flash} {bytes array charges events : List ℕ} {value count : ℕ}
-        → Performed (call_of q) now (chip_in m) lent flash array charges events value count → bytes ≡ encoded flash
+        → Performed (call_of q) now (chip_in m) lent (chip flash array charges) events value count → bytes ≡ encoded flash
         → Tells q now lent m 0 value count (record { bytes = bytes; array = array; charges = charges }) events
     unfolding outcome outcome_by
     told-done g p b =
@@ -109,9 +109,7 @@ module _ (q : Request) (now : Time) (lent : List ℕ) (m : Memory) where
           record {
             number_is = rw e;
             count_is = rw e p.count_is;
-            record_is = rw e (b ∙ ap encoded p.flash_is);
-            array_is = rw e p.array_is;
-            charges_are = rw e p.charges_is;
+            memory_is = rw (e, b) (ap memory_of p.chip_is);
             events_are = rw e p.events_are;
           },
           rw e p.value_is,

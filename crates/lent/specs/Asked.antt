@@ -90,10 +90,8 @@ count_of (Ok answer) = answer.count
 count_of (Err r) = 0
 
 -- what of a call's outcome a function gives back and leaves in lent memory
-pub record Told (o : Outcome) (number count : ℕ) (bytes array charges events : List ℕ) : Type 0 where
+pub record Told (o : Outcome) (number count : ℕ) (left : Memory) (events : List ℕ) : Type 0 where
   pub number_is : number ≡ o.number
   pub count_is : count ≡ o.count
-  pub record_is : bytes ≡ o.memory.bytes
-  pub array_is : array ≡ o.memory.array
-  pub charges_are : charges ≡ o.memory.charges
+  pub memory_is : left ≡ o.memory
   pub events_are : events ≡ o.events

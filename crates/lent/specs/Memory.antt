@@ -6,7 +6,7 @@ use Rattle.time.specs.Raw.{raw}
 use Rattle.cell.specs.Cell.{array_bytes, array_cells}
 use Rattle.flash.specs.declared.Flash.{Flash}
 use Rattle.settle.specs.Settling.{range_bytes}
-use Rattle.flash.specs.Chip.{Chip}
+use Rattle.flash.specs.Chip.{Chip, chip}
 use Rattle.registers.specs.declared.Pulse.{Pulse}
 use Rattle.layout.specs.Layout.{record_length, decoded, encoded}
 
@@ -16,12 +16,20 @@ pub record Memory : Type 0 where
   pub array : List ℕ
   pub charges : List ℕ
 
+-- memory as a function is lent it, in three slices
+abbrev pub lent : List ℕ → List ℕ → List ℕ → Memory
+lent bytes array charges = record { bytes = bytes; array = array; charges = charges }
+
+-- an instant as a function is given it, by its halves
+abbrev pub moment : ℕ → ℕ → Time
+moment seconds fraction = record { 0 = seconds; 1 = fraction }
+
 -- the chip in some memory, and the memory of a chip
 abbrev pub chip_in : Memory → Chip
-chip_in m = record { flash = decoded m.bytes; array = m.array; charges = m.charges }
+chip_in m = chip (decoded m.bytes) m.array m.charges
 
 abbrev pub memory_of : Chip → Memory
-memory_of k = record { bytes = encoded k.flash; array = k.array; charges = k.charges }
+memory_of k = lent (encoded k.flash) k.array k.charges
 
 -- ---- checks
 

@@ -7,15 +7,14 @@ use Rattle.flash.specs.declared.held.Held.{Held}
 use Rattle.flash.specs.Views.{chip_of}
 use Rattle.lent.specs.declared.memory.Lent.{Lent}
 use Rattle.lent.specs.declared.memory.LentMut.{LentMut}
-use Rattle.lent.specs.Memory.{Memory, chip_in}
-use Rattle.lent.specs.Asked.{Outcome, Told}
+use Rattle.lent.specs.Memory.{Memory, lent, chip_in}
 
 abbrev pub memory_in : Lent → Memory
-memory_in lent = record { bytes = lent.«record».now; array = lent.array.now; charges = lent.charges.now }
+memory_in l = lent l.«record».now l.array.now l.charges.now
 
 -- of what is lent to be changed, at some moment
 abbrev pub memory_at : LentMut → Memory
-memory_at lent = record { bytes = lent.«record».now; array = lent.array.now; charges = lent.charges.now }
+memory_at l = lent l.«record».now l.array.now l.charges.now
 
 -- The same memory is lent as before, whatever it holds.
 pub record SameLent (old new : LentMut) : Type 0 where
@@ -27,7 +26,3 @@ pub record SameLent (old new : LentMut) : Type 0 where
 abbrev pub Opens : ℕ → Memory → Result Held Refusal → Type 0
 Opens refusal m (Ok held) = (refusal ≡ 0) × (chip_of held ≡ chip_in m)
 Opens refusal m (Err r) = number r ≡ refusal
-
--- what a call leaves in lent memory, of its outcome
-abbrev pub LeavesLent : Outcome → ℕ → ℕ → LentMut → List ℕ → Type 0
-LeavesLent o number count lent events = Told o number count lent.«record».now lent.array.now lent.charges.now events

@@ -32,7 +32,9 @@ pub fn make(
     array: &mut [u8],
     charges: usize,
 ) -> Result<(), Refusal>
-    ensures { (told result ≡ new_refusal firmware.now (length «record».old) (length array.old) charges) × («record».new ≡ new_record (told result) «record».old) × (array.new ≡ new_array (told result) firmware.now array.old) }
+    ensures refused { told result ≡ new_refusal firmware.now (length «record».old) (length array.old) charges }
+    ensures bytes { «record».new ≡ new_record (told result) «record».old }
+    ensures array { array.new ≡ new_array (told result) firmware.now array.old }
 {
     if firmware.len() != FLASH_SIZE {
         return Err(Refusal::Firmware);

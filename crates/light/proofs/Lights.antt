@@ -20,7 +20,7 @@ use Rattle.registers.specs.Calls.{next, settles}
 use Rattle.settle.specs.Settling.{settled_by, sensed_by, ended, end_words}
 use Rattle.settle.proofs.Loop.{changes-same}
 use Rattle.flash.specs.declared.Flash.{Flash}
-use Rattle.flash.specs.Chip.{Chip, Performed, registers, step_if, step, answer}
+use Rattle.flash.specs.Chip.{Chip, chip, Performed, registers, step_if, step, answer}
 use Rattle.lent.specs.declared.Request.TheVariants.{WriteRegister}
 use Rattle.lent.specs.Memory.{last_second}
 use Rattle.lent.specs.Asked.{call_refusal}
@@ -64,7 +64,7 @@ module _ (a v : ℕ) (t : Time) (k : Chip) (shut : pulse (registers k) ≡ None)
   written =
       record { registers = write_register a v t (registers k); pulse_since = since_after (registers k).enabled a k.flash.pulse_since t; sensed = k.flash.sensed; indices = k.flash.indices }
 
-  light-step : step (call.WriteRegister a v) t k ≡ record { chip = record { flash = written; array = k.array; charges = k.charges }; events = [] }
+  light-step : step (call.WriteRegister a v) t k ≡ record { chip = chip written k.array k.charges; events = [] }
   unfolding step step_if next settles settled_by sensed_by ended end_words
   light-step = by (not (eqb a FENR) && (registers k).enabled)
     where
@@ -73,10 +73,10 @@ module _ (a v : ℕ) (t : Time) (k : Chip) (shut : pulse (registers k) ≡ None)
       by false = refl
       by true = rw (shut, nothing, changes-same 0 k.array, either-way {A = List ℕ})
 
-  pub light-performed : (lent : List ℕ) → Performed (call.WriteRegister a v) t k lent written k.array k.charges lent 0 0
+  pub light-performed : (lent : List ℕ) → Performed (call.WriteRegister a v) t k lent (chip written k.array k.charges) lent 0 0
   unfolding answer
   light-performed lent =
-      record { flash_is = rw light-step; array_is = rw light-step; charges_is = rw light-step; events_are = rw light-step; value_is = refl; value_small = lit< tt; count_is = rw light-step }
+      record { chip_is = rw light-step; events_are = rw light-step; value_is = refl; value_small = lit< tt; count_is = rw light-step }
 
   pub light-accepted : (words : ℕ) → last_second t ≡ false → ltb (raw t) (raw k.flash.pulse_since) ≡ false
       → call_refusal (WriteRegister a v) t words k.flash ≡ 0

@@ -9,12 +9,13 @@ use Rattle.time.specs.declared.Time.{Time}
 use Rattle.cell.specs.Cell.{at}
 use Rattle.registers.specs.Access.{write_register}
 use Rattle.flash.specs.declared.Flash.{Flash}
+use Rattle.flash.specs.Chip.{chip}
 use Rattle.lent.specs.declared.Request.TheVariants.{WriteRegister}
 use Rattle.access.specs.declared.Settings.{Settings}
 use Rattle.access.specs.Settings.{Changed}
 use Rattle.listing.specs.Calls.{first_in, second_in, request_by, request_in}
 use Rattle.listing.specs.Replaying.{stops}
-use Rattle.listing.specs.Held.{chip, Ready, Called, Onward}
+use Rattle.listing.specs.Held.{Ready, Called, Onward}
 use Rattle.registers.specs.Pulses.{may_pulse}
 use Rattle.light.specs.Writes.{lit, is_light, since_after}
 use Rattle.listing.proofs.Holding.{call-done}

@@ -84,10 +84,9 @@ last-words (suc n) i calls o w = by (stopped calls i o) refl (last-words n (suc 
         rest z ∙ ap (λ (ws : List ℕ). ws ++ events_of (asks_after p n (suc i) calls) p.memory) (sym z)
 
 -- what it leaves and says there
-pub replays : (end from : ℕ) (calls lent : List ℕ) (m : Memory) {done number value count : ℕ} {bytes array charges events : List ℕ}
-    → ended end from calls (idle lent m)
-    ≡ record { done = done; last = record { number = number; value = value; memory = record { bytes = bytes; array = array; charges = charges }; events = events; count = count } }
-    → Replays from (asks_after (idle lent m) (end - from) from calls) lent m done number value count bytes array charges events
+pub replays : (end from : ℕ) (calls lent : List ℕ) (m : Memory) {done number value count : ℕ} {left : Memory} {events : List ℕ}
+    → ended end from calls (idle lent m) ≡ record { done = done; last = record { number = number; value = value; memory = left; events = events; count = count } }
+    → Replays from (asks_after (idle lent m) (end - from) from calls) lent m done number value count left events
 replays end from calls lent m e =
     let qs = asks_after (idle lent m) (end - from) from calls in
     let o = ap (λ (x : Ended). x.last) e in
@@ -98,9 +97,7 @@ replays end from calls lent m e =
       told = record {
         number_is = sym (ap (λ (x : Outcome). x.number) o);
         count_is = sym (ap (λ (x : Outcome). x.count) o);
-        record_is = sym (ap (λ (x : Outcome). x.memory.bytes) o);
-        array_is = sym (ap (λ (x : Outcome). x.memory.array) o);
-        charges_are = sym (ap (λ (x : Outcome). x.memory.charges) o);
+        memory_is = sym (ap (λ (x : Outcome). x.memory) o);
         events_are = sym (ap (λ (x : Outcome). x.events) o);
       };
       value_is = sym (ap (λ (x : Outcome). x.value) o);
@@ -139,14 +136,14 @@ unsaid q t lent m e = by (refusal q t (length lent) m) e
 
 -- ---- the first call is refused
 
-pub told_is : {o : Outcome} {number value count : ℕ} {bytes array charges events : List ℕ} → Told o number count bytes array charges events → value ≡ o.value
-    → o ≡ record { number = number; value = value; memory = record { bytes = bytes; array = array; charges = charges }; events = events; count = count }
+pub told_is : {o : Outcome} {number value count : ℕ} {left : Memory} {events : List ℕ} → Told o number count left events → value ≡ o.value
+    → o ≡ record { number = number; value = value; memory = left; events = events; count = count }
 told_is t v =
-    λ i. record { number = sym t.number_is i; value = sym v i; memory = record { bytes = sym t.record_is i; array = sym t.array_is i; charges = sym t.charges_are i }; events = sym t.events_are i; count = sym t.count_is i }
+    λ i. record { number = sym t.number_is i; value = sym v i; memory = sym t.memory_is i; events = sym t.events_are i; count = sym t.count_is i }
 
 pub refused-first : (end from : ℕ) (calls lent : List ℕ) (m : Memory) → from < end → (n : ℕ) → 1 ≤ n
-    → Told (asked (call_at calls from lent) m) n 0 m.bytes m.array m.charges lent → 0 ≡ (asked (call_at calls from lent) m).value
-    → Replays from (asks_after (idle lent m) (end - from) from calls) lent m (from + 1) n 0 0 m.bytes m.array m.charges lent
+    → Told (asked (call_at calls from lent) m) n 0 m lent → 0 ≡ (asked (call_at calls from lent) m).value
+    → Replays from (asks_after (idle lent m) (end - from) from calls) lent m (from + 1) n 0 0 m lent
 refused-first end from calls lent m h zero f t v = absurd (omega arith)
 refused-first end from calls lent m h (suc n) f t v =
     let o = told_is t v in

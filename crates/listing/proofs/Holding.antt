@@ -1,6 +1,6 @@
 -- A chip held by value between two calls: its memory is refused neither by 2 nor by 3 and reads back as the chip, so that a call over that
 -- memory is a call on the chip; and what the call leaves is such a chip again. Assumes nothing.
-use mathlib.Core.Path.{◌≡◌, refl, sym, ◌∙◌}
+use mathlib.Core.Path.{◌≡◌, refl, sym, ap, ◌∙◌}
 use mathlib.Core.Bool.{Bool, true, false}
 use mathlib.Core.List.{List}
 use Prim.Native.Nat.{ℕ, zero, suc, ◌<◌}
@@ -14,20 +14,20 @@ use Rattle.registers.specs.Calls.{settles}
 use Rattle.settle.proofs.Slots.{SlotsOf, slots-from}
 use Rattle.settle.proofs.Expose.{settled-slots, settled-array-length}
 use Rattle.flash.specs.declared.Flash.{Flash}
-use Rattle.flash.specs.Chip.{Chip, Fit, Performed, registers, cells, step_if, step}
+use Rattle.flash.specs.Chip.{Chip, chip, Fit, Performed, registers, cells, step_if, step}
 use Rattle.layout.specs.Layout.{accepted, encoded, decoded}
 use Rattle.layout.specs.Whole.{TimeFits}
 use Rattle.layout.proofs.Back.{written-reads-back, length-encoded, decoded-fits}
 use Rattle.layout.proofs.Accepted.{accepted-writes-back, accepted-sound, accepted-encoded}
 use Rattle.lent.specs.declared.Request.{Request}
-use Rattle.lent.specs.Memory.{Memory, chip_in, memory_of, misfits}
+use Rattle.lent.specs.Memory.{Memory, lent, chip_in, memory_of, misfits}
 use Rattle.lent.specs.Asked.{call_of, call_refusal, refusal, outcome_by, outcome}
 use Rattle.lent.specs.Looked.{memory_refusal}
 use Rattle.lent.proofs.Fitted.{Sizes, sizes-fit, fitted, memory-taken}
 use Rattle.lent.proofs.Tells.{passes}
 use Rattle.ledger.specs.Lists.{Numbers}
 use Rattle.ledger.proofs.Kept.{fits-step, sound-step, numbers-arguments}
-use Rattle.listing.specs.Held.{chip, Ready, Called}
+use Rattle.listing.specs.Held.{Ready, Called}
 
 -- ---- from memory
 
@@ -45,7 +45,7 @@ module _ (m : Memory) (taken : memory_refusal m ≡ 0) (small : (b : ℕ) → at
 
   pub memory_start : m ≡ memory_of (chip_in m)
   memory_start =
-      λ i. record { bytes = sym (accepted-writes-back m.bytes lengths.record_long small known) i; array = m.array; charges = m.charges }
+      ap (λ (bs : List ℕ). lent bs m.array m.charges) (sym (accepted-writes-back m.bytes lengths.record_long small known))
 
 -- ---- a call over its memory
 
@@ -60,7 +60,7 @@ module _ (k : Chip) (h : Ready k) where
   flash-back = written-reads-back k.flash h.fits
 
   chip-back : chip_in (memory_of k) ≡ k
-  chip-back = λ i. record { flash = flash-back i; array = k.array; charges = k.charges }
+  chip-back = ap (λ (s : Flash). chip s k.array k.charges) flash-back
 
   pub ready-fit : Fit k
   ready-fit = rw chip-back at (fitted (memory_of k) (sizes-fit _ _ _ sizes-held) known-held)
@@ -85,28 +85,27 @@ module _ (k : Chip) (h : Ready k) where
         (settled-slots (registers k).latch k.flash.pulse_since t (cells k) (pulse (registers k)) slots-held).room,
       )
 
-  module _ (q : Request) (t : Time) (lent : List ℕ) where
-    pub call-refused : (n : ℕ) → n ≡ call_refusal q t (length lent) k.flash → (n ≡ 0 → ⊥) → Called q t lent k k lent n 0 0
+  module _ (q : Request) (t : Time) (words : List ℕ) where
+    pub call-refused : (n : ℕ) → n ≡ call_refusal q t (length words) k.flash → (n ≡ 0 → ⊥) → Called q t words k k words n 0 0
     unfolding outcome outcome_by
     call-refused zero e z = absurd (z refl)
-    call-refused (suc n) e z = record { outcome_is = rw (refusal-held q t (length lent) ∙ sym e); ready = h }
+    call-refused (suc n) e z = record { outcome_is = rw (refusal-held q t (length words) ∙ sym e); ready = h }
 
-    module _ (e : call_refusal q t (length lent) k.flash ≡ 0) (numbers : Numbers q) (time : TimeFits t) where
-      pub call-done : {flash : Flash} {array charges events : List ℕ} {value count : ℕ}
-          → Performed (call_of q) t k lent flash array charges events value count
-          → Called q t lent k (chip flash array charges) events 0 value count
+    module _ (e : call_refusal q t (length words) k.flash ≡ 0) (numbers : Numbers q) (time : TimeFits t) where
+      pub call-done : {k' : Chip} {events : List ℕ} {value count : ℕ} → Performed (call_of q) t k words k' events value count
+          → Called q t words k k' events 0 value count
       unfolding outcome outcome_by
       call-done p =
-          let s = passes q t (length lent) k.flash e in
+          let s = passes q t (length words) k.flash e in
           let l = step-lengths (call_of q) t in
           record {
             outcome_is =
-                rw (refusal-held q t (length lent) ∙ e, chip-back)
-                (λ i. record { number = 0; value = sym p.value_is i; memory = record { bytes = encoded (sym p.flash_is i); array = sym p.array_is i; charges = sym p.charges_is i }; events = sym p.events_are i; count = sym p.count_is i });
+                rw (refusal-held q t (length words) ∙ e, chip-back)
+                (λ i. record { number = 0; value = sym p.value_is i; memory = memory_of (sym p.chip_is i); events = sym p.events_are i; count = sym p.count_is i });
             ready = record {
-              fits = rw p.flash_is (fits-step (call_of q) t k (numbers-arguments q numbers) time s.in_time slots-held h.fits);
-              sound = rw p.flash_is (sound-step (call_of q) t k s.placed_is slots-held h.sound);
-              array_long = rw p.array_is l.0;
-              charges_long = rw p.charges_is l.1;
+              fits = rw p.chip_is (fits-step (call_of q) t k (numbers-arguments q numbers) time s.in_time slots-held h.fits);
+              sound = rw p.chip_is (sound-step (call_of q) t k s.placed_is slots-held h.sound);
+              array_long = rw p.chip_is l.0;
+              charges_long = rw p.chip_is l.1;
             };
           }

@@ -7,13 +7,13 @@ use Prim.Native.Nat.{ℕ, ◌+◌, ◌≤◌, ◌<◌}
 use native.Mathlib.Numerals.{add-one}
 use native.Mathlib.Omega.{arith}
 use Rattle.flash.specs.declared.Flash.{Flash}
-use Rattle.flash.specs.Chip.{Chip}
+use Rattle.flash.specs.Chip.{Chip, chip}
 use Rattle.lent.specs.Memory.{memory_of}
 use Rattle.lent.specs.Asked.{Outcome}
 use Rattle.lent.specs.declared.Asking.{Asking}
 use Rattle.listing.specs.Calls.{call_at, asking_at}
 use Rattle.listing.specs.Replaying.{stops, idle}
-use Rattle.listing.specs.Held.{chip, Ready, leaves, Called, ended, Onward}
+use Rattle.listing.specs.Held.{Ready, leaves, Called, ended, Onward}
 use Rattle.listing.proofs.Going.{ended-end, ended-stop, ended-on, unsaid}
 
 -- ---- one call

@@ -1,18 +1,17 @@
 -- The state that a replay holds by value: what is known of it between two calls, and what a part of a replay leaves to the rest.
 -- Assumes nothing.
 use Rattle.std.specs.Prelude.{ℕ, ◌+◌, ◌-◌, ◌≤◌, ◌≡◌, List, length}
+use Rattle.refusal.specs.Refusal.{told}
 use Rattle.time.specs.declared.Time.{Time}
 use Rattle.cell.specs.Cell.{array_bytes, array_cells}
 use Rattle.flash.specs.declared.Flash.{Flash}
-use Rattle.flash.specs.Chip.{Chip}
+use Rattle.flash.specs.Chip.{Chip, chip}
 use Rattle.layout.specs.Whole.{Fits, Sound}
 use Rattle.lent.specs.declared.Request.{Request}
 use Rattle.lent.specs.Memory.{memory_of}
-use Rattle.lent.specs.Asked.{Outcome, outcome}
+use Rattle.lent.specs.Asked.{Outcome, outcome, value_of, count_of}
+use Rattle.listing.specs.declared.Replayed.{Replayed}
 use Rattle.listing.specs.Replaying.{idle, asks_after, last_of}
-
-abbrev pub chip : Flash → List ℕ → List ℕ → Chip
-chip flash array charges = record { flash = flash; array = array; charges = charges }
 
 -- a chip whose record is accepted and reads back, in memory of the right lengths
 pub record Ready (k : Chip) : Type 0 where
@@ -34,6 +33,10 @@ pub record Called (q : Request) (t : Time) (lent : List ℕ) (k k' : Chip) (even
 pub record Ended : Type 0 where
   pub done : ℕ
   pub last : Outcome
+
+-- by what a replay gives back and leaves
+abbrev pub came : Replayed → Chip → List ℕ → Ended
+came r k events = record { done = r.done; last = leaves k events (told r.last) (value_of r.last) (count_of r.last) }
 
 abbrev pub ended : ℕ → ℕ → List ℕ → Outcome → Ended
 ended end i calls o = record { done = i + length (asks_after o (end - i) i calls); last = last_of (asks_after o (end - i) i calls) o }

@@ -50,9 +50,9 @@ last_of (q ∷ qs) o = last_of qs (asked q o.memory)
 
 -- What a replay gives back and leaves, where qs are the calls done: memory is the ledger's fold over them, and so are the event words
 -- given; number, value, count and all event words are those of the last of them.
-pub record Replays (from : ℕ) (qs : List Asked) (lent : List ℕ) (m : Memory) (done number value count : ℕ) (bytes array charges events : List ℕ) : Type 0 where
+pub record Replays (from : ℕ) (qs : List Asked) (lent : List ℕ) (m : Memory) (done number value count : ℕ) (left : Memory) (events : List ℕ) : Type 0 where
   pub done_is : done ≡ from + length qs
-  pub memory_is : record { bytes = bytes; array = array; charges = charges } ≡ memory_after qs m
+  pub memory_is : left ≡ memory_after qs m
   pub given_are : take count events ≡ events_of qs m
-  pub told : Told (last_of qs (idle lent m)) number count bytes array charges events
+  pub told : Told (last_of qs (idle lent m)) number count left events
   pub value_is : value ≡ (last_of qs (idle lent m)).value

@@ -5,7 +5,7 @@ ghost use Rattle.std.specs.Prelude.{◌≡◌, true, ◌<◌, ◌≤◌, length}
 ghost use Rattle.registers.specs.Pulses.{pulse};
 ghost use Rattle.registers.specs.Calls.{settles};
 ghost use Rattle.settle.specs.Settling.{range_bytes};
-ghost use Rattle.flash.specs.Chip.{placed, sensed_after, Fit, Performed};
+ghost use Rattle.flash.specs.Chip.{chip, placed, sensed_after, Fit, Performed};
 
 use calling::{next, settles};
 use flash::{Answer, BLANK_SENSED, Flash};
@@ -45,8 +45,11 @@ fn perform_settling(
     call: Call,
     now: Accepted,
 ) -> Done
-    requires { Fit (record { flash = flash; array = array.old; charges = charges.old }) × (placed call ≡ true) × (1 ≤ range_bytes (pulse flash.registers) → range_bytes (pulse flash.registers) < length events.old) × (settles call now.time flash.registers ≡ true) }
-    ensures { Performed call now.time (record { flash = flash; array = array.old; charges = charges.old }) events.old result.flash array.new charges.new events.new result.answer.value result.answer.count }
+    requires fit { Fit (chip flash array.old charges.old) }
+    requires placed { placed call ≡ true }
+    requires room { 1 ≤ range_bytes (pulse flash.registers) → range_bytes (pulse flash.registers) < length events.old }
+    requires settles { settles call now.time flash.registers ≡ true }
+    ensures { Performed call now.time (chip flash array.old charges.old) events.old (chip result.flash array.new charges.new) events.new result.answer.value result.answer.count }
 {
     let registers = flash.registers;
     let mut indices = flash.indices;
@@ -82,8 +85,10 @@ pub fn perform(
     call: Call,
     now: Accepted,
 ) -> Done
-    requires { Fit (record { flash = flash; array = array.old; charges = charges.old }) × (placed call ≡ true) × (settles call now.time flash.registers ≡ true → 1 ≤ range_bytes (pulse flash.registers) → range_bytes (pulse flash.registers) < length events.old) }
-    ensures { Performed call now.time (record { flash = flash; array = array.old; charges = charges.old }) events.old result.flash array.new charges.new events.new result.answer.value result.answer.count }
+    requires fit { Fit (chip flash array.old charges.old) }
+    requires placed { placed call ≡ true }
+    requires room { settles call now.time flash.registers ≡ true → 1 ≤ range_bytes (pulse flash.registers) → range_bytes (pulse flash.registers) < length events.old }
+    ensures { Performed call now.time (chip flash array.old charges.old) events.old (chip result.flash array.new charges.new) events.new result.answer.value result.answer.count }
 {
     let registers = flash.registers;
     if settles(registers, call, now.time) {

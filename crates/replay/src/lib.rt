@@ -21,7 +21,7 @@ pub fn replay(
     to: usize,
 ) -> Replayed
     ensures same { SameLent memory.old memory.new }
-    ensures done { Replays from (asks from to calls.now events.old (memory_at memory.old)) events.old (memory_at memory.old) result.done (told result.last) (value_of result.last) (count_of result.last) memory.new.«record».now memory.new.array.now memory.new.charges.now events.new }
+    ensures done { Replays from (asks from to calls.now events.old (memory_at memory.old)) events.old (memory_at memory.old) result.done (told result.last) (value_of result.last) (count_of result.last) (memory_at memory.new) events.new }
 {
     let end = to.min(calls.len() / NUMBERS);
     if end <= from {

@@ -2,6 +2,7 @@
 // function.
 #![tactic(auto)]
 
+ghost use Rattle.lent.specs.Memory.{lent};
 ghost use Rattle.listing.specs.Replaying.{asks, Replays};
 
 use lent::memory::LentMut;
@@ -22,7 +23,7 @@ pub extern "C" fn flash_replay(
     value: &mut u16,
     count: &mut u64,
 ) -> u32
-    ensures { Replays from (asks from to calls.now events.old (record { bytes = «record».old; array = array.old; charges = charges.old })) events.old (record { bytes = «record».old; array = array.old; charges = charges.old }) done.new result value.new count.new «record».new array.new charges.new events.new }
+    ensures { Replays from (asks from to calls.now events.old (lent «record».old array.old charges.old)) events.old (lent «record».old array.old charges.old) done.new result value.new count.new (lent «record».new array.new charges.new) events.new }
 {
     let mut memory = LentMut {
         record,

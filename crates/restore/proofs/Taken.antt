@@ -1,6 +1,6 @@
 -- A snapshot whose fields are all good, as the function that takes it goes on: by the place and the length of the state, by its validity, and
 -- from what is judged and taken by place to what the format says. Assumes nothing.
-use mathlib.Core.Path.{◌≡◌, refl, ap, ◌∙◌}
+use mathlib.Core.Path.{◌≡◌, refl}
 use mathlib.Core.Bool.{Bool, true, false}
 use mathlib.Core.List.{List}
 use Prim.Native.Nat.{ℕ, zero, suc, ◌+◌, ◌<◌, ◌≤◌}
@@ -12,8 +12,8 @@ use Rattle.cell.specs.Cell.{at, pages, array_bytes}
 use Rattle.flash.specs.declared.Flash.{Flash}
 use Rattle.flash.specs.Chip.{no_pages}
 use Rattle.layout.specs.Layout.{encoded}
-use Rattle.lent.specs.Memory.{Memory, misfits, last_second}
-use Rattle.snapshot.specs.Asked.{valid, first, read_refusal, memory_read, Left}
+use Rattle.lent.specs.Memory.{Memory, lent, misfits, last_second}
+use Rattle.snapshot.specs.Asked.{valid, first, read_refusal, memory_read}
 use Rattle.snapshot.specs.Places.{pages_place, count_in, state_place, state_length, pages_index, pages_cells, flash_at, flash_read, scan_number, place_judged, place_read}
 use Rattle.snapshot.proofs.Places.{judged-by-place, restored-by-place}
 
@@ -41,11 +41,11 @@ module _ (t : Time) (xs ys : List ℕ) (place end : ℕ) (index : List ℕ) (y :
 
       pub taken : ok ≡ true → (m : Memory) (bytes array charges : List ℕ) → bytes ≡ encoded s → array ≡ take array_bytes xs
           → charges ≡ sets m.charges 0 (pages_cells (count_in xs) xs pages_place)
-          → (0 ≡ place_judged t xs) × Left (place_read 0 xs m) bytes array charges
+          → (0 ≡ place_judged t xs) × (lent bytes array charges ≡ place_read 0 xs m)
       unfolding place_judged
       taken b m bytes array charges f g q = (
         rw (← state-end, le-ltb end (length xs) h, ← flash-read, ← v, b),
-        record { record_is = f ∙ ap encoded flash-read; array_is = g; charges_are = q },
+        rw (f, flash-read, g, q),
       )
 
 -- ---- from places to the format
@@ -65,12 +65,12 @@ module _ (t : Time) (xs : List ℕ) (m : Memory) (small : (k : ℕ) → at xs k 
   refusal-by-place = rw (a, b, judged-by-place t xs small)
 
   -- a field is refused
-  pub scan-refused : (n : ℕ) → n ≡ scan_number xs → (n ≡ 0 → ⊥) → (n ≡ read_refusal t xs m) × Left (memory_read n xs m) m.bytes m.array m.charges
+  pub scan-refused : (n : ℕ) → n ≡ scan_number xs → (n ≡ 0 → ⊥) → (n ≡ read_refusal t xs m) × (m ≡ memory_read n xs m)
   scan-refused zero e h = absurd (h refl)
-  scan-refused (suc n) e h = (rw (refusal-by-place, ← e), record { record_is = refl; array_is = refl; charges_are = refl })
+  scan-refused (suc n) e h = (rw (refusal-by-place, ← e), refl)
 
   -- none is
-  pub read-by-place : (n : ℕ) (bytes array charges : List ℕ) → scan_number xs ≡ 0 → n ≡ place_judged t xs → Left (place_read n xs m) bytes array charges
-      → (n ≡ read_refusal t xs m) × Left (memory_read n xs m) bytes array charges
-  read-by-place zero bytes array charges e f l = (rw (refusal-by-place, e) f, rw (restored-by-place xs m small e) l)
-  read-by-place (suc n) bytes array charges e f l = (rw (refusal-by-place, e) f, l)
+  pub read-by-place : (n : ℕ) {after : Memory} → scan_number xs ≡ 0 → n ≡ place_judged t xs → after ≡ place_read n xs m
+      → (n ≡ read_refusal t xs m) × (after ≡ memory_read n xs m)
+  read-by-place zero e f l = (rw (refusal-by-place, e) f, rw (restored-by-place xs m small e) l)
+  read-by-place (suc n) e f l = (rw (refusal-by-place, e) f, l)

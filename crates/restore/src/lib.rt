@@ -7,7 +7,7 @@ ghost use Rattle.std.specs.Prelude.{◌≡◌, false};
 ghost use Rattle.lent.specs.Memory.{misfits};
 ghost use Rattle.lent.specs.Views.{memory_at, SameLent};
 ghost use Rattle.refusal.specs.Refusal.{told};
-ghost use Rattle.snapshot.specs.Asked.{read_refusal, memory_read, Left};
+ghost use Rattle.snapshot.specs.Asked.{read_refusal, memory_read};
 ghost use Rattle.snapshot.specs.Places.{place_judged, place_read};
 
 use crate::loading::{flash_at, load_pages};
@@ -25,7 +25,7 @@ fn take(snapshot: &Scanned, memory: &mut LentMut, time: Time) -> Result<(), Refu
     requires { misfits (memory_at memory.old) ≡ false }
     ensures same { SameLent memory.old memory.new }
     ensures judged { told result ≡ place_judged time snapshot.now.bytes.now }
-    ensures left { Left (place_read (told result) snapshot.now.bytes.now (memory_at memory.old)) memory.new.«record».now memory.new.array.now memory.new.charges.now }
+    ensures left { memory_at memory.new ≡ place_read (told result) snapshot.now.bytes.now (memory_at memory.old) }
 {
     let state = snapshot.state();
     if state.end() < snapshot.bytes.len() {
@@ -45,7 +45,7 @@ fn take(snapshot: &Scanned, memory: &mut LentMut, time: Time) -> Result<(), Refu
 pub fn read_snapshot(bytes: &[u8], memory: &mut LentMut, time: Time) -> Result<(), Refusal>
     ensures same { SameLent memory.old memory.new }
     ensures refused { told result ≡ read_refusal time bytes.entry.now (memory_at memory.old) }
-    ensures left { Left (memory_read (told result) bytes.entry.now (memory_at memory.old)) memory.new.«record».now memory.new.array.now memory.new.charges.now }
+    ensures left { memory_at memory.new ≡ memory_read (told result) bytes.entry.now (memory_at memory.old) }
 {
     if memory.seen().misfits() {
         return Err(Refusal::Memory);

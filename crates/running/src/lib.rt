@@ -3,12 +3,13 @@
 
 ghost use Rattle.std.specs.Prelude.{◌≡◌, ◌*◌, ◌≤◌, length};
 ghost use Rattle.refusal.specs.Refusal.{told};
+ghost use Rattle.flash.specs.Chip.{chip};
 ghost use Rattle.layout.specs.Whole.{TimeFits};
 ghost use Rattle.lent.specs.Memory.{memory_of};
 ghost use Rattle.lent.specs.Asked.{value_of, count_of};
 ghost use Rattle.ledger.specs.Lists.{Numbers};
 ghost use Rattle.listing.specs.Replaying.{reads, stops, idle};
-ghost use Rattle.listing.specs.Held.{chip, Ready, leaves, Called, ended};
+ghost use Rattle.listing.specs.Held.{Ready, Called, came, ended};
 
 use flash::Flash;
 use lent::checking::call_refusal;
@@ -59,7 +60,7 @@ pub fn run(
     end: usize,
 ) -> Replayed
     requires { Ready (chip flash.old array.old charges.old) × (3 * end ≤ length calls.now) }
-    ensures { ended end from calls.now (idle events.old (memory_of (chip flash.old array.old charges.old))) ≡ record { done = result.done; last = leaves (chip flash.new array.new charges.new) events.new (told result.last) (value_of result.last) (count_of result.last) } }
+    ensures { ended end from calls.now (idle events.old (memory_of (chip flash.old array.old charges.old))) ≡ came result (chip flash.new array.new charges.new) events.new }
 {
     let mut i: usize = from;
     // No for: the place moves on past a run of light calls.

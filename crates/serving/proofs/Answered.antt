@@ -23,8 +23,8 @@ use Rattle.serving.specs.Serving.{came_to, Notes, Serves}
 use Rattle.serving.proofs.Quiet.{noted-once}
 
 module _ (from to : ℕ) (calls lent : List ℕ) (m : Memory) (more : from < to) (long : 3 * to ≤ length calls)
-    (answer : Replayed) {bytes array charges events : List ℕ}
-    (r : Replays from (asks from to calls lent m) lent m answer.done (told answer.last) (value_of answer.last) (count_of answer.last) bytes array charges events) where
+    (answer : Replayed) {after : Memory} {events : List ℕ}
+    (r : Replays from (asks from to calls lent m) lent m answer.done (told answer.last) (value_of answer.last) (count_of answer.last) after events) where
   -- at least one call is done, and none past the end
   pub done-some : (from < answer.done) × (answer.done ≤ to)
   done-some =
@@ -33,13 +33,13 @@ module _ (from to : ℕ) (calls lent : List ℕ) (m : Memory) (more : from < to)
       (omega (arith, h.0, r.done_is), omega (arith, h.1, e, r.done_is))
 
   -- what the last of them came to
-  last-is : last_of (asks from to calls lent m) (idle lent m) ≡ came_to answer.last events (record { bytes = bytes; array = array; charges = charges })
+  last-is : last_of (asks from to calls lent m) (idle lent m) ≡ came_to answer.last events after
   last-is = told_is r.told r.value_is
 
   module _ (w : Manner) (numbers : List ℕ) (course : Course) (on : course.stopped ≡ false) where
     -- the desk after the calls done
     desk_is : called_all w (numbered_from (answer.done - from) from calls numbers) (desk course m lent)
-        ≡ noted_at_once w from (answer.done - 1) calls numbers (came_to answer.last events (record { bytes = bytes; array = array; charges = charges })) (desk course m lent)
+        ≡ noted_at_once w from (answer.done - 1) calls numbers (came_to answer.last events after) (desk course m lent)
     desk_is =
         let n : answer.done - from ≡ length (asks from to calls lent m) = omega (arith, r.done_is) in
         rw n
@@ -49,10 +49,10 @@ module _ (from to : ℕ) (calls lent : List ℕ) (m : Memory) (more : from < to)
 
     pub serves : {out left : List ℕ} {r : Noted}
         → Notes (noted_at_once w from (answer.done - 1) calls numbers) course answer.last events out left r
-        → Serves w calls numbers from to (desk course m lent) (record { bytes = bytes; array = array; charges = charges }) events out left (record { noted = r; next = answer.done })
+        → Serves w calls numbers from to (desk course m lent) after events out left (record { noted = r; next = answer.done })
     serves n =
         record {
           further = done-some.0;
           inside = done-some.1;
-          leaves = rw desk_is (n (record { bytes = bytes; array = array; charges = charges }));
+          leaves = rw desk_is (n after);
         }

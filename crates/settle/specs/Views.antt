@@ -7,7 +7,7 @@ use Rattle.settle.specs.declared.cells.CellsRef.{CellsRef}
 use Rattle.settle.specs.declared.cells.CellsMut.{CellsMut}
 use Rattle.settle.specs.declared.exposure.Exposure.{Exposure}
 use Rattle.settle.specs.Pages.{Cells}
-use Rattle.settle.specs.Settling.{expose}
+use Rattle.settle.specs.Settling.{expose, changes, Left}
 
 -- the cells that an index, an array and charges are, and that each has its length
 abbrev pub cells_of : List ℕ → List ℕ → List ℕ → Cells
@@ -29,6 +29,11 @@ pub record SameCells (old new : CellsMut) : Type 0 where
   pub same_index : new.index.ghost_name ≡ old.index.ghost_name
   pub same_array : new.array.ghost_name ≡ old.array.ghost_name
   pub same_charges : new.charges.ghost_name ≡ old.charges.ghost_name
+
+-- what is left of cells that were changed: they are some others, and the words are those of the bytes that differ
+abbrev pub LeavesCells : Cells → Cells → List ℕ → CellsMut → List ℕ → ℕ → Type 0
+LeavesCells before after lent cells events count =
+    Left after (changes 0 before.array after.array) lent cells.index.now cells.array.now cells.charges.now events count
 
 -- what an exposure leaves, and without one nothing changes
 abbrev pub after_exposure : Option Exposure → Cells → Cells

@@ -6,8 +6,8 @@ ghost use Rattle.std.specs.Prelude.{◌≡◌, ◌<◌, ◌≤◌, ◌+◌, ◌*
 ghost use Rattle.std.proofs.lemmas.List.Edits.{sets};
 ghost use Rattle.cell.specs.Cell.{array_bytes, page_bytes, page_cells, pages, at, sensed_byte};
 ghost use Rattle.registers.specs.Calls.{ending_number};
-ghost use Rattle.settle.specs.Settling.{settled_by, spanned, changes, byte_kind, word, Left, range_bytes, range_end};
-ghost use Rattle.settle.specs.Views.{after_exposure, cells_at, SameCells};
+ghost use Rattle.settle.specs.Settling.{settled_by, spanned, changes, byte_kind, word, range_bytes, range_end};
+ghost use Rattle.settle.specs.Views.{after_exposure, cells_at, SameCells, LeavesCells};
 ghost use Rattle.settling.specs.Kinds.{kind_number, KindWithNumber};
 
 use cell::{PAGE, PAGE_CELLS, Sense};
@@ -145,7 +145,7 @@ fn resense_page(
 pub fn expose(cells: &mut CellsMut, events: &mut [u64], exposure: &Option<Exposure>) -> usize
     requires { IfSome exposure.now (λ e. (e.pulse.first + e.pulse.pages ≤ pages) × (e.pulse.pages * page_bytes ≤ length events.old)) }
     ensures same { SameCells cells.old cells.new }
-    ensures left { Left (after_exposure exposure.now (cells_at cells.old)) (changes 0 cells.old.array.now (after_exposure exposure.now (cells_at cells.old)).array) events.old cells.new.index.now cells.new.array.now cells.new.charges.now events.new result }
+    ensures left { LeavesCells (cells_at cells.old) (after_exposure exposure.now (cells_at cells.old)) events.old cells.new events.new result }
 {
     let Some(exposure) = exposure else {
         return 0;
@@ -187,7 +187,7 @@ pub fn settle(
 ) -> usize
     requires { (range_end pulse ≤ pages) × (range_bytes pulse ≤ length events.old) }
     ensures same { SameCells cells.old cells.new }
-    ensures left { Left (settled_by pulse latch.now since time (cells_at cells.old)) (changes 0 cells.old.array.now (settled_by pulse latch.now since time (cells_at cells.old)).array) events.old cells.new.index.now cells.new.array.now cells.new.charges.now events.new result }
+    ensures left { LeavesCells (cells_at cells.old) (settled_by pulse latch.now since time (cells_at cells.old)) events.old cells.new events.new result }
 {
     expose(cells, events, &Exposure::at(pulse, latch, since, time))
 }

@@ -17,14 +17,14 @@ use Rattle.settle.specs.Pages.{cell_at, opened}
 use Rattle.settle.specs.Settling.{changes, end_words}
 use Rattle.settle.proofs.Slots.{SlotsOf, slots-from}
 use Rattle.settle.proofs.Expose.{settled-slots}
-use Rattle.flash.specs.Chip.{Chip, registers, cells, settled_at, sensed_at, sensed_after, step_if, step, answer, settled_answer}
+use Rattle.flash.specs.Chip.{Chip, chip, registers, cells, settled_at, sensed_at, sensed_after, step_if, step, answer, settled_answer}
 use Rattle.flash.specs.Looking.{charge_at, image_at, peek_at, all_blank, blank_at}
 use Rattle.flash.proofs.Answers.{settled-value, stored-value}
 use Rattle.layout.specs.Layout.{flag_byte, encoded, decoded, accepted, refused3}
 use Rattle.layout.proofs.Back.{decoded-index}
 use Rattle.layout.proofs.Accepted.{accepted-sound}
 use Rattle.lent.specs.declared.Request.{Request}
-use Rattle.lent.specs.Memory.{Memory, chip_in, misfits}
+use Rattle.lent.specs.Memory.{Memory, lent, chip_in, misfits}
 use Rattle.lent.specs.Asked.{call_of, refusal, outcome_by, outcome}
 use Rattle.lent.specs.Looked.{sized_refusal, look_refusal, charge_refusal, charge_answer, peek_refusal, peek_answer, blank_refusal, blank_answer, output_refusal, image_refusal, image_left}
 use Rattle.lent.proofs.Fitted.{sizes-fit}
@@ -35,10 +35,10 @@ use Rattle.snapshot.proofs.IndexBack.{decoded-long, step-index}
 
 -- the chip and the memory with other charges
 abbrev chip_with : List ℕ → Chip → Chip
-chip_with qs k = record { flash = k.flash; array = k.array; charges = qs }
+chip_with qs k = chip k.flash k.array qs
 
 abbrev memory_with : List ℕ → Memory → Memory
-memory_with qs m = record { bytes = m.bytes; array = m.array; charges = qs }
+memory_with qs m = lent m.bytes m.array qs
 
 -- ---- a chip
 
@@ -207,5 +207,5 @@ module _ (m : Memory) (qs : List ℕ) (long : length qs ≡ length m.charges)
 pub alike-answers : Restored
 alike-answers m m' a =
     subst (SameAnswers m)
-    (λ i. record { bytes = sym a.record_is i; array = sym a.array_is i; charges = m'.charges })
+    (λ i. lent (sym a.record_is i) (sym a.array_is i) m'.charges)
     (answers m m'.charges a.long a.used)

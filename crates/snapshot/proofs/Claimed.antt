@@ -26,7 +26,7 @@ use Rattle.layout.proofs.Back.{decoded-index, decoded-fits, written-reads-back, 
 use Rattle.layout.proofs.Accepted.{placed-says, placed-told, accepted-writes-back, accepted-sound, accepted-encoded}
 use Rattle.lent.proofs.Fitted.{Sizes, sizes-fit}
 use Rattle.lent.proofs.Lines.{line}
-use Rattle.lent.specs.Memory.{Memory, chip_in, misfits, last_second, too_early}
+use Rattle.lent.specs.Memory.{Memory, lent, chip_in, misfits, last_second, too_early}
 use Rattle.borsh.specs.Borsh.{Read}
 use Rattle.std.specs.Prelude.{Ok}
 use Rattle.snapshot.specs.Snapshot.{ChargePage, Contents, snapshot, contents_of, snapshot_of, state_fields, state_of, indexed, cells_of, flash_in}
@@ -160,19 +160,19 @@ module _ (m : Memory) (w : Whole m) where
   early t e = le-leb (raw s.pulse_since) (raw t) (ltb-false (raw t) (raw s.pulse_since) e)
 
   restores : (m' : Memory) → memory_read 0 (snapshot_of (chip_in m)) m'
-      ≡ record { bytes = m.bytes; array = m.array; charges = sets m'.charges 0 (take (in_use m) m.charges) }
+      ≡ lent m.bytes m.array (sets m'.charges 0 (take (in_use m) m.charges))
   unfolding contents_of
   restores m' =
       let r = ap (λ (x : Read Contents). restored x m') reads-back in
       let b : encoded (flash_in (contents_of (chip_in m))) ≡ m.bytes = ap encoded flash-back ∙ accepted-writes-back m.bytes (sizes m w.fits).record_long w.record_bytes accepts in
       let c = cells-of-slots s.indices m.charges slots in
-      r ∙ (λ i. record { bytes = b i; array = m.array; charges = sets m'.charges 0 (c i) })
+      r ∙ (λ i. lent (b i) m.array (sets m'.charges 0 (c i)))
 
 -- ---- read, then written
 
 module _ (v : Contents) (g : GoodContents v) (t : Time) (ok : valid t (flash_in v) ≡ true) (charges : List ℕ) (l : length charges ≡ array_cells) where
   abbrev taken : Memory
-  taken = record { bytes = encoded (flash_in v); array = v.0; charges = sets charges 0 (cells_of v.1.0) }
+  taken = lent (encoded (flash_in v)) v.0 (sets charges 0 (cells_of v.1.0))
 
   abbrev index : List ℕ
   index = indexed 0 v.1.0 (no_pages pages)

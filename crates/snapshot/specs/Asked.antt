@@ -1,7 +1,7 @@
 -- Snapshot writing, snapshot reading and `validate` over lent memory: their refusals and their whole outcome. Document 01, "Order of
 -- checking".
 -- Assumes nothing.
-use Rattle.std.specs.Prelude.{ℕ, zero, suc, ◌≡◌, Bool, true, not, ◌&&◌, List, [], ◌∷◌, leb, ltb, length, Option, Some, None}
+use Rattle.std.specs.Prelude.{ℕ, zero, suc, Bool, true, not, ◌&&◌, List, [], ◌∷◌, leb, ltb, length, Option, Some, None}
 use Rattle.std.proofs.lemmas.List.Edits.{sets}
 use Rattle.time.specs.declared.Time.{Time}
 use Rattle.time.specs.Raw.{raw}
@@ -9,7 +9,7 @@ use Rattle.cell.specs.Cell.{page_bytes}
 use Rattle.control.specs.declared.PendingSense.{PendingSense}
 use Rattle.flash.specs.declared.Flash.{Flash}
 use Rattle.layout.specs.Layout.{encoded, decoded, flag_byte, control_clear, placed, legible, rows_in, refused3}
-use Rattle.lent.specs.Memory.{Memory, chip_in, check, first_given, record_misfits, misfits, last_second}
+use Rattle.lent.specs.Memory.{Memory, lent, chip_in, check, first_given, record_misfits, misfits, last_second}
 use Rattle.borsh.specs.Borsh.{Read}
 use Rattle.std.specs.Prelude.{Ok, Err}
 use Rattle.snapshot.specs.Snapshot.{Contents, snapshot, snapshot_of, cells_of, flash_in}
@@ -66,14 +66,8 @@ read_refusal t bytes m = first (first_given (check 2 (misfits m) ∷ check 5 (la
 abbrev pub restored : Read Contents → Memory → Memory
 restored (Err n) m = m
 restored (Ok (v, rest)) m =
-    record { bytes = encoded (flash_in v); array = v.0; charges = sets m.charges 0 (cells_of v.1.0) }
+    lent (encoded (flash_in v)) v.0 (sets m.charges 0 (cells_of v.1.0))
 
 abbrev pub memory_read : ℕ → List ℕ → Memory → Memory
 memory_read zero bytes m = restored (snapshot.read bytes) m
 memory_read (suc n) bytes m = m
-
--- what is told of memory: what a function leaves of it
-pub record Left (m : Memory) (bytes array charges : List ℕ) : Type 0 where
-  pub record_is : bytes ≡ m.bytes
-  pub array_is : array ≡ m.array
-  pub charges_are : charges ≡ m.charges

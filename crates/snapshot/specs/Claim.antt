@@ -8,7 +8,7 @@ use Rattle.cell.specs.Cell.{at, FULL, page_cells}
 use Rattle.settle.specs.Pages.{opened}
 use Rattle.layout.specs.Layout.{decoded, refused3}
 use Rattle.lent.specs.declared.Request.{Request}
-use Rattle.lent.specs.Memory.{Memory, chip_in, misfits, last_second, too_early}
+use Rattle.lent.specs.Memory.{Memory, lent, chip_in, misfits, last_second, too_early}
 use Rattle.lent.specs.Asked.{Outcome, outcome}
 use Rattle.lent.specs.Looked.{charge_refusal, charge_answer, peek_refusal, peek_answer, blank_refusal, blank_answer, image_refusal, image_left}
 use Rattle.snapshot.specs.Snapshot.{snapshot_of, snapshot_length}
@@ -48,7 +48,7 @@ pub record Snapshots : Type 0 where
   pub back : (m m' : Memory) (t : Time) → Whole m → misfits m' ≡ false → last_second t ≡ false → too_early t (decoded m.bytes) ≡ false
       → ltb (decoded m.bytes).registers.erase 64 ≡ true
       → (read_refusal t (snapshot_of (chip_in m)) m' ≡ 0)
-      × (memory_read 0 (snapshot_of (chip_in m)) m' ≡ record { bytes = m.bytes; array = m.array; charges = sets m'.charges 0 (take (in_use m) m.charges) })
+      × (memory_read 0 (snapshot_of (chip_in m)) m' ≡ lent m.bytes m.array (sets m'.charges 0 (take (in_use m) m.charges)))
   -- with erase 64 or more it is refused by 12
   pub erase_refused : (m m' : Memory) (t : Time) → Whole m → misfits m' ≡ false → last_second t ≡ false
       → ltb (decoded m.bytes).registers.erase 64 ≡ false → read_refusal t (snapshot_of (chip_in m)) m' ≡ 12

@@ -11,7 +11,7 @@ use Rattle.registers.specs.declared.Registers.{Registers}
 use Rattle.flash.specs.declared.Flash.{Flash}
 use Rattle.flash.specs.Chip.{no_pages}
 use Rattle.layout.specs.Layout.{word, row, encoded, flag_of, supply_of, mode_of, pending_of, placed}
-use Rattle.lent.specs.Memory.{Memory, check, first_given}
+use Rattle.lent.specs.Memory.{Memory, lent, check, first_given}
 use Rattle.snapshot.specs.Asked.{valid, first}
 
 -- ---- places
@@ -166,11 +166,7 @@ place_judged t xs =
 
 abbrev pub place_restored : List ℕ → Memory → Memory
 place_restored xs m =
-    record {
-      bytes = encoded (flash_read xs);
-      array = take array_bytes xs;
-      charges = sets m.charges 0 (pages_cells (count_in xs) xs pages_place);
-    }
+    lent (encoded (flash_read xs)) (take array_bytes xs) (sets m.charges 0 (pages_cells (count_in xs) xs pages_place))
 
 -- memory after a judgement
 abbrev pub place_read : ℕ → List ℕ → Memory → Memory

@@ -4,7 +4,7 @@
 ghost use Rattle.std.specs.Prelude.{List, ℕ};
 ghost use Rattle.lent.specs.Views.{memory_in};
 ghost use Rattle.text.specs.Says.{Says};
-ghost use Rattle.course.specs.Desk.{desk, events_said, value_said, call_said, looked_refusal, looked, Leaves};
+ghost use Rattle.course.specs.Desk.{desk, events_said, value_said, call_said, look_done, Leaves};
 
 use crate::looks::look_at;
 use answers::answered;
@@ -70,7 +70,7 @@ pub fn look(
     looking: Looking,
     out: &mut [u8],
 ) -> Noted
-    ensures { (events : List ℕ) → Leaves (looked manner line looking time (looked_refusal looking time (memory_in lent.entry)) (desk course (memory_in lent.entry) events)) result.course (memory_in lent.entry) events result.complaint out.old out.new result.end }
+    ensures { (events : List ℕ) → Leaves (look_done manner line looking time (desk course (memory_in lent.entry) events)) result.course (memory_in lent.entry) events result.complaint out.old out.new result.end }
 {
     match look_at(lent, line, time, looking, out) {
         Ok(end) => Noted::quiet(course, end),

@@ -22,7 +22,7 @@ pub perform-done-requires : goal.perform-done-requires
 perform-done-requires c =
     let h = holds c.in_ok-flash.field-0 _ _ c.seen.ensures c.in_ok-flash.ensures.told.1 in
     let p = passes _ _ _ _ (sym c.in_ok-now.ensures.told) in
-    (h.fits, rw c.into.ensures p.placed_is, rw (c.into.ensures, c.in_ok-now.ensures.asked) p.enough)
+    record { fit = h.fits; placed = rw c.into.ensures p.placed_is; room = rw (c.into.ensures, c.in_ok-now.ensures.asked) p.enough }
 
 pub returns : goal.returns
 returns c =

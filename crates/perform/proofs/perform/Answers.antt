@@ -5,7 +5,9 @@ use Rattle.perform.proofs.perform.Goals as goal
 
 pub perform_settling-requires : goal.perform_settling-requires
 perform_settling-requires c =
-    let p = c.requires in let s = sym c.settles.ensures ∙ c.if-settles.true in (p.0, p.1, p.2 s, s)
+    let p = c.requires in
+    let s = sym c.settles.ensures ∙ c.if-settles.true in
+    record { fit = p.fit; placed = p.placed; room = p.room s; settles = s }
 
 pub returns-then-settles : goal.returns-then-settles
 returns-then-settles c =
@@ -13,7 +15,7 @@ returns-then-settles c =
 
 pub stored_answer-value-requires : goal.stored_answer-value-requires
 stored_answer-value-requires c =
-    let p = c.requires in (sym c.settles.ensures ∙ c.if-settles.false, p.1, p.0.array_long)
+    let p = c.requires in (sym c.settles.ensures ∙ c.if-settles.false, p.placed, p.fit.array_long)
 
 pub returns : goal.returns
 returns c =

@@ -32,6 +32,6 @@ returns c =
     let e = c.in_ok-scan.ensures in
     let last : last_second c.args.time ≡ false = search rules in
     let t =
-    read-by-place _ _ _ (λ j. (c.type_inv.bytes j).fits) (ap misfits (sym c.seen.ensures) ∙ sym c.misfits.ensures ∙ c.if-misfits.false) last _ _ _ _
+    read-by-place _ _ _ (λ j. (c.type_inv.bytes j).fits) (ap misfits (sym c.seen.ensures) ∙ sym c.misfits.ensures ∙ c.if-misfits.false) last _
     (sym e.told) (rw e.same at c.take.ensures.judged) (rw e.same at c.take.ensures.left) in
     record { same = c.take.ensures.same; refused = t.0; left = t.1 }

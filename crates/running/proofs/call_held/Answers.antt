@@ -14,7 +14,7 @@ returns-in_err-now c =
 pub perform-done-requires : goal.perform-done-requires
 perform-done-requires c =
     let p = passes _ _ _ _ (sym c.in_ok-now.ensures.told) in
-    (ready-fit _ c.requires.0, rw c.into.ensures p.placed_is, rw (c.into.ensures, c.in_ok-now.ensures.asked) p.enough)
+    record { fit = ready-fit _ c.requires.0; placed = rw c.into.ensures p.placed_is; room = rw (c.into.ensures, c.in_ok-now.ensures.asked) p.enough }
 
 pub returns : goal.returns
 returns c =

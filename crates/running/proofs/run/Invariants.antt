@@ -1,7 +1,7 @@
 -- `running::run` meets its contract. The loop's invariant: the replay has come here from the first call, and has given no event
 -- words. Assumes nothing.
 use Prim.Native.Nat.{◌-◌}
-use Rattle.listing.specs.Held.{chip}
+use Rattle.flash.specs.Chip.{chip}
 use Rattle.listing.proofs.Steps.{Gone}
 use Rattle.running.proofs.run.Given as goal
 
