@@ -10,9 +10,9 @@ use lib.Dec.{ltb, leb}
 use lib.ListN.{length, drop, length-append, take-append-drop}
 use lib.Seq.{drop_at, get_or-drop}
 use Rattle.cell.specs.Cell.{at}
-use Rattle.layout.specs.Layout.{word, bytes, flag_byte, flag_of}
-use Rattle.layout.proofs.Widths.{length-bytes, word_bytes, bytes_word, word_small}
-use Rattle.layout.proofs.Accepted.{flag-known}
+use Rattle.rows.specs.Rows.{word, bytes, flag_byte, flag_of}
+use Rattle.rows.proofs.Widths.{length-bytes, word_bytes, bytes_word, word_small}
+use Rattle.rows.proofs.Flags.{flag-known}
 use Rattle.std.specs.Prelude.{Option, Some, None}
 use Rattle.borsh.specs.Borsh.{Read, next, Borsh, int, only, mapped, enum, bool, ◌then◌, option, write_option, write_all, read_all, array, vec}
 use Rattle.std.specs.Prelude.{Ok, Err}

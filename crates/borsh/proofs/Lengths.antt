@@ -6,7 +6,7 @@ use Prim.Native.Nat.{ℕ, ◌+◌, ◌*◌}
 use native.Mathlib.Nat.{suc-mul}
 use native.Mathlib.Omega.{arith}
 use lib.ListN.{length, length-append}
-use Rattle.layout.proofs.Widths.{length-bytes}
+use Rattle.rows.proofs.Widths.{length-bytes}
 use Rattle.borsh.specs.Borsh.{Borsh, int, only, mapped, enum, bool, ◌then◌, write_all, array}
 
 pub length-int : (n v : ℕ) → length ((int n).write v) ≡ n

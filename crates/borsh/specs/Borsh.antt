@@ -3,7 +3,7 @@
 -- array is its values; a vec is its count in four bytes and its values; a struct is its fields in order.
 -- Assumes nothing.
 use Rattle.std.specs.Prelude.{ℕ, zero, suc, List, [], ◌∷◌, ◌++◌, Bool, true, false, cond, length, drop, ltb, leb, Option, Some, None, Result, Ok, Err}
-use Rattle.layout.specs.Layout.{word, bytes, flag_byte, flag_of}
+use Rattle.rows.specs.Rows.{word, bytes, flag_byte, flag_of}
 
 infixr 4 ◌then◌
 -- ---- formats

@@ -9,7 +9,7 @@ use lib.Dec.{leb}
 use lib.Seq.{drop-cons}
 use Rattle.std.proofs.lemmas.List.{drop_all}
 use Rattle.cell.specs.Cell.{at}
-use Rattle.layout.specs.Layout.{head_known}
+use Rattle.layout.specs.Layout.{head_row, head_known}
 
 -- the bytes from a place on, each by its place
 within : List ℕ → List ℕ → ℕ → Bool
@@ -22,7 +22,7 @@ beside [] xs i e = ap (λ l. list_all (λ e. leb e.0 e.1) (zip l [])) (drop_all 
 beside (m ∷ limits) xs i e =
     rw (drop-cons xs i 0 (omega arith)) (ap (λ b. leb (at xs i) m && b) (beside limits xs (suc i) (omega arith)))
 
-pub known : (xs : List ℕ) → length xs ≡ 10 → ((i : ℕ) → at xs i < 256)
+pub known : (xs : List ℕ) → length xs ≡ head_row.count → ((i : ℕ) → at xs i < 256)
     → list_all (λ e. leb e.0 e.1) (zip xs (255 ∷ 1 ∷ 255 ∷ 1 ∷ 1 ∷ 2 ∷ 1 ∷ 5 ∷ 1 ∷ 1 ∷ [])) ≡ head_known xs
 unfolding head_known within
 known xs l fits =

@@ -10,14 +10,14 @@ ghost use Rattle.layout.specs.Layout.{head_known, nothing_clear, placed, legible
 use crate::slots::slots_sound;
 use cell::{ARRAY_BYTES, PAGE_BYTES};
 use control::supplies::{LAST_MODE, LAST_SUPPLY};
-use layout::{ADDRESSES, INDICES, PENDING_INSTANT, RECORD_LEN};
+use layout::{ADDRESS_COUNT, ADDRESSES, HEAD_COUNT, INDICES, PENDING_INSTANT, RECORD_LEN};
 use rows::numbers::Number;
 use rows::row_at;
 use time::Time;
 
 // The most that each single byte of a state can be: those of flags, of the supply, of the mode and of the option are few, the others may be
 // any.
-pub const LIMITS: [u8; 10] = [255, 1, 255, 1, 1, LAST_SUPPLY, 1, LAST_MODE, 1, 1];
+pub const LIMITS: [u8; HEAD_COUNT] = [255, 1, 255, 1, 1, LAST_SUPPLY, 1, LAST_MODE, 1, 1];
 
 // Whether each byte is at most its limit.
 fn within(bytes: &[u8], limits: &[u8]) -> bool
@@ -27,7 +27,7 @@ fn within(bytes: &[u8], limits: &[u8]) -> bool
 }
 
 // Each flag, supply, mode and option byte is one.
-fn head_known(head: &[u8; 10]) -> bool
+fn head_known(head: &[u8; HEAD_COUNT]) -> bool
     ensures { result ≡ head_known head.now }
 {
     within(head, &LIMITS)
@@ -52,8 +52,8 @@ pub fn placed(address: u16, step: u16) -> bool
 pub fn legible(record: &[u8; RECORD_LEN]) -> bool
     ensures { result ≡ legible (rows_in «record».now) }
 {
-    let head: [u8; 10] = row_at(record, 0);
-    let addresses: [u16; 2] = row_at(record, ADDRESSES);
+    let head: [u8; HEAD_COUNT] = row_at(record, 0);
+    let addresses: [u16; ADDRESS_COUNT] = row_at(record, ADDRESSES);
     let instant: [u64; 2] = row_at(record, PENDING_INSTANT);
     let indices = row_at(record, INDICES);
     head_known(&head) & nothing_clear(head[9], addresses[1], instant.into()) & slots_sound(&indices)
@@ -64,7 +64,7 @@ pub fn in_range(record: &[u8; RECORD_LEN]) -> bool
     ensures { result ≡ in_range (rows_in «record».now) }
 {
     let page = u16::get(record, ADDRESSES);
-    let address = u16::get(record, ADDRESSES + 2);
+    let address = u16::get(record, ADDRESSES + u16::WIDTH);
     (record[0] < 128) & placed(page, PAGE_BYTES) & placed(address, 4)
 }
 

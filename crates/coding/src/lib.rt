@@ -4,11 +4,12 @@
 pub mod state;
 
 ghost use Rattle.std.specs.Prelude.{◌≡◌, ◌++◌, ◌+◌, ◌*◌, ◌<◌, length, take};
-ghost use Rattle.layout.specs.Layout.{record_length, encoded, decoded, head_of, addresses_of, halves_of, row, row_bytes};
+ghost use Rattle.rows.specs.Rows.{row_bytes, begins};
+ghost use Rattle.layout.specs.Layout.{layout, record_length, instant_count, halves_at, encoded, decoded, head_of, addresses_of, halves_of};
 
 use crate::state::{addresses_of, halves_of, head_of, registers_of};
 use flash::Flash;
-use layout::{ADDRESSES, HALVES, INDICES, LATCH, RECORD_LEN, SENSED};
+use layout::{ADDRESSES, HALVES, INDICES, INSTANTS, LATCH, RECORD_LEN, SENSED};
 use registers::Registers;
 use rows::numbers::Number;
 use rows::{put_row, row_at};
@@ -21,10 +22,10 @@ pub fn read(record: &[u8; RECORD_LEN]) -> Flash
 {
     let head = row_at(record, 0);
     let addresses = row_at(record, ADDRESSES);
-    let halves: [[u64; 2]; 8] = from_fn(
+    let halves: [[u64; 2]; INSTANTS] = from_fn(
         |k|
-            requires { k < 8 }
-            ensures { result ≡ row 2 8 (14 + 16 * k) «record».entry.now }
+            requires { k < instant_count }
+            ensures { result ≡ halves_at k «record».entry.now }
         { row_at(record, HALVES + Time::WIDTH * k) },
     );
     let latch = row_at(record, LATCH);
@@ -40,7 +41,7 @@ pub fn read(record: &[u8; RECORD_LEN]) -> Flash
 // The rows before the latch.
 fn put_scalars(record: &mut [u8], registers: Registers, since: Time)
     requires { length «record».old ≡ record_length }
-    ensures { take 142 «record».new ≡ row_bytes 1 (head_of registers) ++ row_bytes 2 (addresses_of registers) ++ row_bytes 8 (halves_of registers since) }
+    ensures { take (begins layout 3) «record».new ≡ row_bytes 1 (head_of registers) ++ row_bytes 2 (addresses_of registers) ++ row_bytes 8 (halves_of registers since) }
 {
     put_row(record, 0, &head_of(registers));
     put_row(record, ADDRESSES, &addresses_of(registers));

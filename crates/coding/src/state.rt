@@ -4,6 +4,7 @@ ghost use Rattle.layout.specs.Layout.{supply_of, mode_of, head_of, addresses_of,
 
 use cell::PAGE;
 use control::{Mode, PendingSense, Supply};
+use layout::{ADDRESS_COUNT, HEAD_COUNT, INSTANTS};
 use registers::Registers;
 use time::Time;
 
@@ -35,7 +36,7 @@ pub fn mode_of(b: u8) -> Mode
 
 // The single bytes.
 #[tactic(auto, unfolding(layout::specs::Layout::head_of))]
-pub fn head_of(r: Registers) -> [u8; 10]
+pub fn head_of(r: Registers) -> [u8; HEAD_COUNT]
     ensures { result ≡ head_of r }
 {
     [
@@ -53,7 +54,7 @@ pub fn head_of(r: Registers) -> [u8; 10]
 }
 
 #[tactic(auto, unfolding(layout::specs::Layout::addresses_of))]
-pub fn addresses_of(r: Registers) -> [u16; 2]
+pub fn addresses_of(r: Registers) -> [u16; ADDRESS_COUNT]
     ensures { result ≡ addresses_of r }
 {
     [r.page, r.verify_pending.map_or(0, |due| due.address)]
@@ -61,7 +62,7 @@ pub fn addresses_of(r: Registers) -> [u16; 2]
 
 // The halves of the instants, one instant after the other.
 #[tactic(auto, unfolding(layout::specs::Layout::halves_of))]
-pub fn halves_of(r: Registers, since: Time) -> [[u64; 2]; 8]
+pub fn halves_of(r: Registers, since: Time) -> [[u64; 2]; INSTANTS]
     ensures { flat_map (λ halves. halves) result ≡ halves_of r since }
 {
     let instant = r.verify_pending.map_or(Time(0, 0), |due| due.at);
@@ -79,9 +80,9 @@ pub fn halves_of(r: Registers, since: Time) -> [[u64; 2]; 8]
 
 #[tactic(auto, unfolding(layout::specs::Layout::registers_of))]
 pub fn registers_of(
-    head: [u8; 10],
-    addresses: [u16; 2],
-    halves: [[u64; 2]; 8],
+    head: [u8; HEAD_COUNT],
+    addresses: [u16; ADDRESS_COUNT],
+    halves: [[u64; 2]; INSTANTS],
     latch: [u8; PAGE],
 ) -> Registers
     ensures { result ≡ registers_of head addresses (flat_map (λ halves. halves) halves) latch }

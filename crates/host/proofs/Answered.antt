@@ -8,7 +8,7 @@ use Rattle.std.specs.Int.{from_bool}
 use Rattle.refusal.specs.declared.Refusal.{Refusal}
 use Rattle.refusal.specs.Refusal.{number, told, Answers}
 use Rattle.refusal.proofs.Outcomes.{number-some}
-use Rattle.layout.specs.Layout.{flag_byte}
+use Rattle.rows.specs.Rows.{flag_byte}
 use Rattle.lent.specs.Looked.{answered}
 use Rattle.save.proofs.Runs.{flag-from}
 

@@ -21,17 +21,14 @@ use Rattle.flash.specs.declared.Flash.{Flash}
 use Rattle.cell.specs.Cell.{at, page_bytes, array_bytes}
 use Rattle.control.specs.Supplies.{supply_number, mode_number}
 use Rattle.settle.specs.Pages.{slots_sound}
-use Rattle.layout.specs.Layout.{row, packed, part, layout, record_length, flag_byte, flag_of, supply_of, mode_of, option_byte, pending_address, pending_instant, pending_of, time_of, head_of, addresses_of, halves_of, rows_of, registers_of, state_of, encoded, rows_in, decoded, flag_known, supply_known, mode_known, option_known, head_known, nothing_clear, control_clear, placed, legible, in_range, accepted}
+use Rattle.rows.specs.Rows.{row, row_in, packed, part, flag_known}
+use Rattle.rows.proofs.Flags.{flag-known, flag-told}
+use Rattle.layout.specs.Layout.{layout, record_length, supply_of, mode_of, option_byte, pending_address, pending_instant, pending_of, time_of, head_of, addresses_of, halves_of, rows_of, registers_of, state_of, encoded, rows_in, decoded, supply_known, mode_known, option_known, head_known, nothing_clear, control_clear, placed, legible, in_range, accepted}
 use Rattle.layout.specs.Whole.{Fits, PendingSound, Sound}
-use Rattle.layout.proofs.Packed.{packed-unpacked}
+use Rattle.rows.proofs.Packed.{packed-unpacked}
 use Rattle.layout.proofs.Back.{rows-encoded}
 
 -- ---- what an accepted record tells
-
-pub flag-known : (b : ℕ) → flag_known b ≡ true → flag_byte (flag_of b) ≡ b
-flag-known zero h = refl
-flag-known (suc zero) h = refl
-flag-known (suc (suc b)) h = absurd (omega (arith, leb-true (suc (suc b)) 1 h))
 
 pub supply-known : (b : ℕ) → supply_known b ≡ true → supply_number (supply_of b) ≡ b
 unfolding supply_of
@@ -122,17 +119,18 @@ head-tests head h =
 rows_back : (xs : List ℕ) → Tests (rows_in xs) → rows_of (state_of (rows_in xs)) ≡ rows_in xs
 unfolding rows_of state_of registers_of head_of addresses_of halves_of rows_in row
 rows_back xs t =
-    let head = row 10 1 0 xs in
-    let v = row 16 8 14 xs in
+    let head = row_in layout 0 xs in
+    let addresses = row_in layout 1 xs in
+    let v = row_in layout 2 xs in
     let h = head-tests head t.head in
-    let p = pending-known (at head 9) (at (row 2 2 10 xs) 1) (time_of v 14) h.option t.clear in
+    let p = pending-known (at head 9) (at addresses 1) (time_of v 14) h.option t.clear in
     λ i. (at head 0 ∷ flag-known (at head 1) h.error i ∷ at head 2 ∷ flag-known (at head 3) h.enabled i
     ∷ flag-known (at head 4) h.power_down i ∷ supply-known (at head 5) h.supply i ∷ flag-known (at head 6) h.oscillator i
     ∷ mode-known (at head 7) h.mode i ∷ flag-known (at head 8) h.«module» i ∷ p.0 i ∷ [])
-    ∷ (at (row 2 2 10 xs) 0 ∷ p.1 i ∷ [])
+    ∷ (at addresses 0 ∷ p.1 i ∷ [])
     ∷ (at v 0 ∷ at v 1 ∷ at v 2 ∷ at v 3 ∷ at v 4 ∷ at v 5 ∷ at v 6 ∷ at v 7 ∷ at v 8 ∷ at v 9 ∷ at v 10 ∷ at v 11 ∷ at v 12 ∷ at v 13
     ∷ (p.2 i).0 ∷ (p.2 i).1 ∷ [])
-    ∷ row 128 1 142 xs ∷ row 4 1 270 xs ∷ row 384 2 274 xs ∷ []
+    ∷ row_in layout 3 xs ∷ row_in layout 4 xs ∷ row_in layout 5 xs ∷ []
 
 packed-rows : (xs : List ℕ) → length xs ≡ record_length → ((k : ℕ) → at xs k < 256) → packed layout (rows_in xs) ≡ xs
 unfolding rows_in
@@ -170,10 +168,6 @@ accepted-sound xs h =
       pending = pending-sound (at (part (rows_in xs) 0) 9) (at (part (rows_in xs) 1) 1) (time_of (part (rows_in xs) 2) 14) t.address;
       slots = t.slots;
     }
-
-flag-told : (b : Bool) → flag_known (flag_byte b) ≡ true
-flag-told true = refl
-flag-told false = refl
 
 supply-told : (s : Supply) → supply_known (supply_number s) ≡ true
 supply-told Normal = refl

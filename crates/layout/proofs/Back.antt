@@ -17,9 +17,11 @@ use Rattle.registers.specs.declared.Registers.{Registers}
 use Rattle.flash.specs.declared.Flash.{Flash}
 use Rattle.cell.specs.Cell.{at, pages}
 use Rattle.control.specs.Supplies.{supply_number, mode_number}
-use Rattle.layout.specs.Layout.{row, layout, record_length, flag_byte, flag_of, supply_of, mode_of, option_byte, pending_address, pending_instant, pending_of, time_of, head_of, addresses_of, halves_of, rows_of, registers_of, state_of, encoded, rows_in, decoded}
-use Rattle.layout.specs.Whole.{RowFits, TimeFits, PendingFits, RegistersFit, Fits}
-use Rattle.layout.proofs.Packed.{RowsFit, length-row, unpacked-packed, unpacked-fits, length-packed, packed-small}
+use Rattle.rows.specs.Rows.{Fills, row_in}
+use Rattle.rows.proofs.Flags.{flag-fits, flag-back}
+use Rattle.layout.specs.Layout.{head_row, address_row, half_row, layout, record_length, supply_of, mode_of, option_byte, pending_address, pending_instant, pending_of, time_of, head_of, addresses_of, halves_of, rows_of, registers_of, state_of, encoded, rows_in, decoded}
+use Rattle.layout.specs.Whole.{TimeFits, PendingFits, RegistersFit, Fits}
+use Rattle.rows.proofs.Packed.{RowsFit, length-row_in, unpacked-packed, unpacked-fits, length-packed, packed-small}
 
 infixr 5 ◌▹◌
 -- ---- the state's numbers fit their rows
@@ -33,10 +35,6 @@ below : {b : ℕ} {vs : List ℕ} → 0 < b → Below b vs → (k : ℕ) → at 
 below h none k = h
 below h (p ▹ ps) zero = p
 below h (p ▹ ps) (suc k) = below h ps k
-
-flag-fits : (b : Bool) → flag_byte b < 256
-flag-fits true = lit< tt
-flag-fits false = lit< tt
 
 supply-fits : (s : Supply) → supply_number s < 256
 supply-fits Normal = lit< tt
@@ -63,7 +61,7 @@ instant-fits : (p : Option PendingSense) → PendingFits p → TimeFits (pending
 instant-fits None f = record { whole = lit< tt; part = lit< tt }
 instant-fits (Some p) f = f.1
 
-head-fits : (r : Registers) → RegistersFit r → RowFits 10 1 (head_of r)
+head-fits : (r : Registers) → RegistersFit r → Fills head_row (head_of r)
 unfolding head_of
 head-fits r f =
     let p : Below 256 (head_of r) = f.control ▹ flag-fits r.error ▹ f.erase ▹ flag-fits r.enabled
@@ -71,13 +69,13 @@ head-fits r f =
     ▹ flag-fits r.«module» ▹ option-fits r.verify_pending ▹ none in
     record { long = refl; small = below (lit< tt) p }
 
-addresses-fit : (r : Registers) → RegistersFit r → RowFits 2 2 (addresses_of r)
+addresses-fit : (r : Registers) → RegistersFit r → Fills address_row (addresses_of r)
 unfolding addresses_of
 addresses-fit r f =
     let p : Below (2 ^ 16) (addresses_of r) = f.page ▹ address-fits r.verify_pending f.verify_pending ▹ none in
     record { long = refl; small = below (lit< tt) p }
 
-halves-fit : (r : Registers) (since : Time) → RegistersFit r → TimeFits since → RowFits 16 8 (halves_of r since)
+halves-fit : (r : Registers) (since : Time) → RegistersFit r → TimeFits since → Fills half_row (halves_of r since)
 unfolding halves_of
 halves-fit r since f g =
     let h = instant-fits r.verify_pending f.verify_pending in
@@ -97,10 +95,6 @@ rows_fit s f = (
 )
 
 -- ---- written, then read
-
-flag-back : (b : Bool) → flag_of (flag_byte b) ≡ b
-flag-back true = refl
-flag-back false = refl
 
 supply-back : (s : Supply) → supply_of (supply_number s) ≡ s
 unfolding supply_of
@@ -181,12 +175,12 @@ pending-fits b a t h g = by (eqb b 1)
     by true = (h, g)
     by false = tt
 
-time-fits : (n : ℕ) (vs : List ℕ) (k : ℕ) → RowFits n 8 vs → TimeFits (time_of vs k)
-time-fits n vs k f = record { whole = f.small k; part = f.small (suc k) }
+time-fits : (vs : List ℕ) (k : ℕ) → Fills half_row vs → TimeFits (time_of vs k)
+time-fits vs k f = record { whole = f.small k; part = f.small (suc k) }
 
 pub decoded-index : (xs : List ℕ) → length (decoded xs).indices ≡ pages
 unfolding decoded state_of rows_in
-decoded-index xs = length-row 384 2 274 xs
+decoded-index xs = length-row_in layout 5 xs
 
 pub decoded-fits : (xs : List ℕ) → ((k : ℕ) → at xs k < 256) → Fits (decoded xs)
 unfolding decoded state_of registers_of rows_in
@@ -195,7 +189,8 @@ decoded-fits xs b =
     let head = f.0 in
     let addresses = f.1.0 in
     let halves = f.1.1.0 in
-    let time : (k : ℕ) → TimeFits (time_of (row 16 8 14 xs) k) = λ k. time-fits 16 (row 16 8 14 xs) k halves in
+    let vs = row_in layout 2 xs in
+    let time : (k : ℕ) → TimeFits (time_of vs k) = λ k. time-fits vs k halves in
     record {
       registers = record {
         control = head.small 0;
@@ -208,7 +203,7 @@ decoded-fits xs b =
         erase_ready = time 6;
         recovery = time 8;
         verify_ready = time 10;
-        verify_pending = pending-fits (at (row 10 1 0 xs) 9) (at (row 2 2 10 xs) 1) (time_of (row 16 8 14 xs) 14) (addresses.small 1) (time 14);
+        verify_pending = pending-fits (at (row_in layout 0 xs) 9) (at (row_in layout 1 xs) 1) (time_of vs 14) (addresses.small 1) (time 14);
       };
       pulse_since = time 12;
       sensed = f.1.1.1.1.0;

@@ -1,5 +1,2 @@
-pub mod Widths
-pub mod Runs
-pub mod Packed
 pub mod Back
 pub mod Accepted

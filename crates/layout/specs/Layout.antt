@@ -1,7 +1,7 @@
--- The record's bytes: the state as rows of numbers, one row after the other, each number in as many bytes as its row says, the low byte
--- first; and which records are refused by 3. Document 01, "Order of checking", the row "record".
+-- The record's bytes: the state as rows of numbers, one row after the other, each number in as many bytes as its row says; and which
+-- records are refused by 3. Document 01, "Order of checking", the row "record".
 -- Assumes nothing.
-use Rattle.std.specs.Prelude.{ℕ, zero, suc, ◌+◌, ◌*◌, ◌/◌, ◌%◌, List, [], ◌∷◌, ◌++◌, Bool, true, false, cond, not, ◌&&◌, ◌||◌, get_or, ltb, leb, eqb, Option, Some, None}
+use Rattle.std.specs.Prelude.{ℕ, suc, ◌+◌, ◌*◌, ◌%◌, List, [], ◌∷◌, Bool, cond, not, ◌&&◌, ◌||◌, ltb, leb, eqb, Option, Some, None}
 use Rattle.time.specs.declared.Time.{Time}
 use Rattle.control.specs.declared.Mode.{Mode}
 use Rattle.control.specs.declared.Mode.TheVariants.{Active, Subactive, Sleep, Subsleep, Watch, Standby}
@@ -10,77 +10,48 @@ use Rattle.control.specs.declared.Supply.TheVariants.{Normal, Reduced, Stopped}
 use Rattle.control.specs.declared.PendingSense.{PendingSense}
 use Rattle.registers.specs.declared.Registers.{Registers}
 use Rattle.flash.specs.declared.Flash.{Flash}
-use Rattle.cell.specs.Cell.{at, page_bytes, array_bytes}
+use Rattle.cell.specs.Cell.{at, page_bytes, pages, array_bytes}
+use Rattle.rows.specs.Rows.{Field, row, size, packed, unpacked, begins, part, flag_byte, flag_of, flag_known}
 use Rattle.control.specs.Supplies.{supply_number, mode_number}
 use Rattle.settle.specs.Pages.{slots_sound}
 
--- ---- numbers as bytes
-
--- the number of n bytes from a place, the low byte first
-unfoldable pub word : ℕ → List ℕ → ℕ → ℕ
-word zero xs place = 0
-word (suc n) xs place = at xs place + 256 * word n xs (suc place)
-
--- the n low bytes of a number, the lowest first
-unfoldable pub bytes : ℕ → ℕ → List ℕ
-bytes zero v = []
-bytes (suc n) v = v % 256 ∷ bytes n (v / 256)
-
--- a row of n numbers of w bytes each, from a place
-unfoldable pub row : ℕ → ℕ → ℕ → List ℕ → List ℕ
-row zero w place xs = []
-row (suc n) w place xs = word w xs place ∷ row n w (place + w) xs
-
--- the bytes of a row
-unfoldable pub row_bytes : ℕ → List ℕ → List ℕ
-row_bytes w [] = []
-row_bytes w (v ∷ vs) = bytes w v ++ row_bytes w vs
-
--- ---- rows one after the other
-
--- a field of the record: so many numbers, of so many bytes each
-pub record Field : Type 0 where
-  pub count : ℕ
-  pub width : ℕ
-
--- the bytes of a list of fields
-abbrev pub size : List Field → ℕ
-size [] = 0
-size (f ∷ fs) = f.count * f.width + size fs
-
--- the rows of a list of fields, from a place on
-abbrev pub unpacked : List Field → ℕ → List ℕ → List (List ℕ)
-unpacked [] place xs = []
-unpacked (f ∷ fs) place xs = row f.count f.width place xs ∷ unpacked fs (place + f.count * f.width) xs
-
--- their bytes
-abbrev pub packed : List Field → List (List ℕ) → List ℕ
-packed [] rows = []
-packed (f ∷ fs) [] = []
-packed (f ∷ fs) (vs ∷ rows) = row_bytes f.width vs ++ packed fs rows
-
--- the row at a place of a list of rows
-abbrev pub part : List (List ℕ) → ℕ → List ℕ
-part rows k = get_or rows k []
-
 -- ---- the state's fields
 
--- flags, mode, supply, option and other single bytes; page and pending address; the halves of the instants; latch; sensed; page index
+-- flags, mode, supply, option and other single bytes
+abbrev pub head_row : Field
+head_row = record { count = 10; width = 1 }
+
+-- page and pending address
+abbrev pub address_row : Field
+address_row = record { count = 2; width = 2 }
+
+-- the halves of the instants, one instant after the other
+abbrev pub instant_count : ℕ
+instant_count = 8
+
+abbrev pub half_row : Field
+half_row = record { count = 2 * instant_count; width = 8 }
+
+abbrev pub latch_row : Field
+latch_row = record { count = page_bytes; width = 1 }
+
+abbrev pub sensed_row : Field
+sensed_row = record { count = 4; width = 1 }
+
+-- the page index
+abbrev pub index_row : Field
+index_row = record { count = pages; width = 2 }
+
+-- A later row goes last.
 abbrev pub layout : List Field
-layout =
-    record { count = 10; width = 1 } ∷ record { count = 2; width = 2 } ∷ record { count = 16; width = 8 }
-    ∷ record { count = 128; width = 1 } ∷ record { count = 4; width = 1 } ∷ record { count = 384; width = 2 } ∷ []
+layout = head_row ∷ address_row ∷ half_row ∷ latch_row ∷ sensed_row ∷ index_row ∷ []
 
 abbrev pub record_length : ℕ
-record_length = 1042
+record_length = size layout
 
--- a flag is 1 or 0
-abbrev pub flag_byte : Bool → ℕ
-flag_byte true = 1
-flag_byte false = 0
-
-abbrev pub flag_of : ℕ → Bool
-flag_of b = eqb b 1
+-- the two halves of the instant k of a record
+abbrev pub halves_at : ℕ → List ℕ → List ℕ
+halves_at k xs = row 2 half_row.width (begins layout 2 + 2 * half_row.width * k) xs
 
 -- a supply and a mode by their numbers
 unfoldable pub supply_of : ℕ → Supply
@@ -178,10 +149,7 @@ decoded xs = state_of (rows_in xs)
 
 -- ---- refusal 3
 
--- a byte that is a flag, a supply, a mode, an option
-abbrev pub flag_known : ℕ → Bool
-flag_known b = leb b 1
-
+-- a byte that is a supply, a mode, an option
 abbrev pub supply_known : ℕ → Bool
 supply_known b = leb b 2
 

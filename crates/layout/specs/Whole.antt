@@ -1,19 +1,16 @@
 -- What the language's types say of a state, and which states are allowed in a record.
 -- Assumes nothing.
-use Rattle.std.specs.Prelude.{◌≡◌, true, List, ℕ, ◌%◌, ◌^◌, ◌<◌, length, Option, Some, None}
+use Rattle.std.specs.Prelude.{◌≡◌, true, ◌%◌, ◌^◌, ◌<◌, Option, Some, None}
 use Rattle.time.specs.declared.Time.{Time}
 use Rattle.control.specs.declared.PendingSense.{PendingSense}
 use Rattle.registers.specs.declared.Registers.{Registers}
 use Rattle.flash.specs.declared.Flash.{Flash}
-use Rattle.cell.specs.Cell.{at, page_bytes, array_bytes, pages}
+use Rattle.cell.specs.Cell.{page_bytes, array_bytes}
+use Rattle.rows.specs.Rows.{Fills}
+use Rattle.layout.specs.Layout.{latch_row, sensed_row, index_row}
 use Rattle.settle.specs.Pages.{slots_sound}
 
 -- ---- what the types say
-
--- n numbers of w bytes each
-pub record RowFits (n w : ℕ) (xs : List ℕ) : Type 0 where
-  pub long : length xs ≡ n
-  pub small : (k : ℕ) → at xs k < 256 ^ w
 
 pub record TimeFits (t : Time) : Type 0 where
   pub whole : t.0 < 2 ^ 64
@@ -26,7 +23,7 @@ PendingFits (Some sense) = (sense.address < 2 ^ 16) × TimeFits sense.at
 pub record RegistersFit (r : Registers) : Type 0 where
   pub control : r.control < 256
   pub erase : r.erase < 256
-  pub latch : RowFits page_bytes 1 r.latch
+  pub latch : Fills latch_row r.latch
   pub page : r.page < 2 ^ 16
   pub ready : TimeFits r.ready
   pub swe_ready : TimeFits r.swe_ready
@@ -39,8 +36,8 @@ pub record RegistersFit (r : Registers) : Type 0 where
 pub record Fits (s : Flash) : Type 0 where
   pub registers : RegistersFit s.registers
   pub pulse_since : TimeFits s.pulse_since
-  pub sensed : RowFits 4 1 s.sensed
-  pub indices : RowFits pages 2 s.indices
+  pub sensed : Fills sensed_row s.sensed
+  pub indices : Fills index_row s.indices
 
 -- ---- what is allowed
 

@@ -2,23 +2,38 @@
 // the crates above.
 #![tactic(auto)]
 
+use cell::{PAGE, PAGES};
+
 // Event words that a host lends at most: those of the largest range, block 4, and its end.
 pub const EVENT_WORDS: usize = 0x7001;
 
-// Bytes of the record, and where each row begins after the first.
-pub const RECORD_LEN: usize = 1042;
+// How many numbers a row has: single bytes, addresses, instants of two halves each, sensed bytes.
+pub const HEAD_COUNT: usize = 10;
 
-pub const ADDRESSES: usize = 10;
+pub const ADDRESS_COUNT: usize = 2;
 
-pub const HALVES: usize = 14;
+pub const INSTANTS: usize = 8;
 
-pub const PENDING_INSTANT: usize = 126;
+pub const SENSED_COUNT: usize = 4;
 
-pub const LATCH: usize = 142;
+// Bytes of an instant: two halves of eight.
+pub const INSTANT_LEN: usize = 16;
 
-pub const SENSED: usize = 270;
+// Where each row begins after the first, and the bytes of the record. A later row goes last.
+pub const ADDRESSES: usize = HEAD_COUNT;
 
-pub const INDICES: usize = 274;
+pub const HALVES: usize = ADDRESSES + 2 * ADDRESS_COUNT;
+
+pub const LATCH: usize = HALVES + INSTANT_LEN * INSTANTS;
+
+pub const SENSED: usize = LATCH + PAGE;
+
+pub const INDICES: usize = SENSED + SENSED_COUNT;
+
+pub const RECORD_LEN: usize = INDICES + 2 * PAGES;
+
+// Where a pending sense's instant stands, the last of the instants.
+pub const PENDING_INSTANT: usize = LATCH - INSTANT_LEN;
 
 // Where the supplies and the option stand among the single bytes of a state, the first row.
 pub const HEAD_SUPPLIES: usize = 5;

@@ -28,7 +28,9 @@ use Rattle.settle.specs.Settling.{four_sensed, sensed_by, sense_address, verify_
 use Rattle.flash.specs.Chip.{Chip, registers, cells, settled_at, sensed_at, placed, blank_sensed, sensed_after, step_if, step, no_pages, fresh_flash}
 use Rattle.settle.proofs.Slots.{SlotsOf, slots-sound}
 use Rattle.settle.proofs.Expose.{settled-slots}
-use Rattle.layout.specs.Whole.{RowFits, TimeFits, PendingFits, RegistersFit, Fits, PendingSound, Sound}
+use Rattle.rows.specs.Rows.{RowFits, Fills}
+use Rattle.layout.specs.Layout.{latch_row, sensed_row}
+use Rattle.layout.specs.Whole.{TimeFits, PendingFits, RegistersFit, Fits, PendingSound, Sound}
 use Rattle.lent.specs.declared.Request.{Request}
 use Rattle.lent.specs.declared.Request.TheVariants as asks
 use Rattle.lent.specs.Asked.{call_of}
@@ -72,7 +74,7 @@ mapi-small f m l h i [] k = l
 mapi-small f m l h i (x ∷ xs) zero = h i x
 mapi-small f m l h i (x ∷ xs) (suc k) = mapi-small f m l h (suc i) xs k
 
-four-fits : (m : Sense) (a : ℕ) (c : Cells) → RowFits 4 1 (four_sensed m a c)
+four-fits : (m : Sense) (a : ℕ) (c : Cells) → Fills sensed_row (four_sensed m a c)
 unfolding four_sensed
 four-fits m a c =
     record {
@@ -98,7 +100,7 @@ in_range =
     record {
       control = λ c. c < 256;
       erase = λ e. e < 256;
-      latch = RowFits 128 1;
+      latch = Fills latch_row;
       page = λ p. p < 2 ^ 16;
       time = TimeFits;
       pending = PendingFits;
@@ -139,17 +141,17 @@ registers-fit c now r g f b h =
     (record { control = h.control; erase = h.erase; latch = h.latch; page = h.page; ready = h.ready; swe_ready = h.swe_ready; program_ready = h.program_ready; erase_ready = h.erase_ready; recovery = h.recovery; verify_ready = h.verify_ready; pending = h.verify_pending }) in
     record { control = k.control; erase = k.erase; latch = k.latch; page = k.page; ready = k.ready; swe_ready = k.swe_ready; program_ready = k.program_ready; erase_ready = k.erase_ready; recovery = k.recovery; verify_ready = k.verify_ready; verify_pending = k.pending }
 
-sensed-fit : (r : Registers) (now : Time) (c : Cells) (old : List ℕ) → RowFits 4 1 old → RowFits 4 1 (sensed_by r now c old)
+sensed-fit : (r : Registers) (now : Time) (c : Cells) (old : List ℕ) → Fills sensed_row old → Fills sensed_row (sensed_by r now c old)
 unfolding sensed_by
 sensed-fit r now c old h =
-    either (RowFits 4 1) (sense_due r.verify_pending r.supply now && verifies r.control)
+    either (Fills sensed_row) (sense_due r.verify_pending r.supply now && verifies r.control)
     (four-fits (verify_sense r.control) (sense_address r.verify_pending) c) h
 
-blank-fits : RowFits 4 1 blank_sensed
+blank-fits : Fills sensed_row blank_sensed
 unfolding blank_sensed
 blank-fits = replicate-fits 4 1 0xFF (omega arith)
 
-after-sensed : (c : Call) (sensed : List ℕ) → RowFits 4 1 sensed → RowFits 4 1 (sensed_after c sensed)
+after-sensed : (c : Call) (sensed : List ℕ) → Fills sensed_row sensed → Fills sensed_row (sensed_after c sensed)
 after-sensed (WriteRegister a v) sensed h = h
 after-sensed (Write8 a v) sensed h = h
 after-sensed (Read8 a) sensed h = h

@@ -8,7 +8,8 @@ use Rattle.registers.specs.Access.{register}
 use Rattle.registers.specs.Pulses.{normal}
 use Rattle.flash.specs.Chip.{fresh_flash}
 use Rattle.flash.specs.Looking.{charge_at, peek_at, blank_at, image_at}
-use Rattle.layout.specs.Layout.{decoded, encoded, flag_byte, refused3}
+use Rattle.rows.specs.Rows.{flag_byte}
+use Rattle.layout.specs.Layout.{decoded, encoded, refused3}
 use Rattle.lent.specs.Memory.{Memory, chip_in, Check, check, first_given, misfits, record_misfits, sizes_misfit, past_end, bit_over, last_second, too_early}
 
 -- the checks of a look at a record alone, and of one at a time; at memory, an address and a time

@@ -3,7 +3,7 @@
 -- Assumes nothing.
 use Rattle.std.specs.Prelude.{ℕ, ◌+◌, ◌*◌, ◌/◌, ◌%◌, ◌^◌, cond, List, [], eqb}
 use Rattle.cell.specs.Cell.{at}
-use Rattle.layout.specs.Layout.{flag_byte, flag_of}
+use Rattle.rows.specs.Rows.{flag_byte, flag_of}
 use Rattle.lent.specs.declared.Request.{Request}
 use Rattle.lent.specs.declared.Request.TheVariants.{WriteRegister, Write8, Read8, Read16, Protect, Reset, PowerOff, Environment}
 use Rattle.ledger.specs.Lists.{Asked}

@@ -3,7 +3,7 @@
 #![tactic(auto)]
 
 ghost use Rattle.std.specs.Prelude.{◌≡◌, ◌+◌, ◌*◌, ◌<◌, length};
-ghost use Rattle.layout.specs.Layout.{flag_byte};
+ghost use Rattle.rows.specs.Rows.{flag_byte};
 ghost use Rattle.layout.specs.Whole.{TimeFits};
 ghost use Rattle.ledger.specs.Lists.{Numbers};
 ghost use Rattle.listing.specs.Calls.{first_in, second_in, request_by, request_in, asking_at, packed, word_of};

@@ -10,8 +10,8 @@ use lib.ListN.{length, take, drop, length-append}
 use lib.Seq.{sets, sets-eq, drop-drop}
 use borrow.Rule.Slice.PartMut.{put_mid, mid_of, mid_len}
 use Rattle.cell.specs.Cell.{page_cells}
-use Rattle.layout.specs.Layout.{row}
-use Rattle.layout.proofs.Packed.{length-row}
+use Rattle.rows.specs.Rows.{row}
+use Rattle.rows.proofs.Packed.{length-row}
 use Rattle.settle.proofs.Stored.{sets-append}
 use Rattle.snapshot.specs.Places.{pages_place, page_length, page_at, pages_cells}
 

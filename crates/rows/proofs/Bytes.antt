@@ -9,8 +9,8 @@ use lib.ListN.{length, get_or, take, drop}
 use lib.Seq.{get_or-take, get_or-drop, length-take-le, take-append-add}
 use Rattle.std.proofs.lemmas.List.{take_at}
 use Rattle.std.specs.Int.{byte_at, byte_worth, bytes_low_first, sum_through}
-use Rattle.layout.specs.Layout.{word, bytes}
-use Rattle.layout.proofs.Widths.{word-one, word_split, length-bytes}
+use Rattle.rows.specs.Rows.{word, bytes}
+use Rattle.rows.proofs.Widths.{word-one, word_split, length-bytes}
 
 -- a number of k + 1 bytes is what its bytes are worth
 pub worth : (xs bs : List ℕ) (place k : ℕ) → ((i : ℕ) → i ≤ k → get_or bs i 0 ≡ get_or xs (place + i) 0) → sum_through (λ i. byte_worth i (get_or bs i 0)) k ≡ word (suc k) xs place

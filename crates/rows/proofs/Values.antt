@@ -4,7 +4,7 @@ use Rattle.std.proofs.Common.{◌≡◌, ℕ, zero, suc, ◌+◌, ◌*◌, ◌<�
 use Rattle.std.proofs.lemmas.List.{length-map, map-set, get_or-map}
 use Rattle.std.specs.Array.{IsFromFnResult, IsFromFnResultFrom}
 use denote.Param.Members.{Mut, Called}
-use Rattle.layout.specs.Layout.{word, row}
+use Rattle.rows.specs.Rows.{word, row}
 use native.Mathlib.Nat.{mul-zero, mul-suc, add-zero, add_assoc}
 use native.Mathlib.Numerals.{add-one}
 use native.Mathlib.Omega.{arith}

@@ -5,7 +5,7 @@ pub mod instants;
 pub mod numbers;
 
 ghost use Rattle.std.specs.Prelude.{◌≡◌, ◌++◌, ◌+◌, ◌*◌, ◌≤◌, length, take};
-ghost use Rattle.layout.specs.Layout.{row, row_bytes};
+ghost use Rattle.rows.specs.Rows.{row, row_bytes};
 
 use crate::numbers::Number;
 use std::array::from_fn;

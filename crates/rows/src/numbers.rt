@@ -1,6 +1,6 @@
 // Numbers in bytes, the low byte first.
 ghost use Rattle.std.specs.Prelude.{◌≡◌, ℕ, List, ◌++◌, ◌+◌, ◌≤◌, length, map, take};
-ghost use Rattle.layout.specs.Layout.{word, bytes};
+ghost use Rattle.rows.specs.Rows.{word, bytes};
 ghost use Rattle.std.proofs.lemmas.List.{map-id};
 ghost use Rattle.std.proofs.Common.{sym};
 

@@ -19,7 +19,7 @@ use Rattle.std.specs.Simd.{first_chunks}
 use Rattle.cell.specs.Cell.{at}
 use Rattle.settle.specs.Pages.{opened, slots_sound}
 use Rattle.settle.proofs.Slots.{slots-from}
-use Rattle.layout.specs.Layout.{bytes, row_bytes}
+use Rattle.rows.specs.Rows.{bytes, row_bytes}
 use Rattle.flash.specs.Chip.{Chip}
 use Rattle.borsh.specs.Borsh.{int, only, ◌then◌, write_all, array, vec}
 use Rattle.snapshot.specs.Snapshot.{ChargePage, charge, charge_page, place_of, slot_page, slot_pages, state, snapshot, state_fields, contents_of, snapshot_of}

@@ -11,7 +11,7 @@ use Rattle.time.specs.declared.Time.{Time}
 use Rattle.time.specs.Raw.{raw}
 use Rattle.std.specs.Prelude.{Some, None}
 use Rattle.control.specs.Supplies.{supply_number, mode_number}
-use Rattle.layout.specs.Layout.{bytes, row_bytes, flag_byte}
+use Rattle.rows.specs.Rows.{bytes, row_bytes, flag_byte}
 use Rattle.borsh.specs.Borsh.{int, bool, enum, only, mapped, ◌then◌, option, write_all, array}
 use Rattle.snapshot.specs.Snapshot.{Controls, Latched, Supplies, Instants, State, controls, latched, supply, mode, supplies, time, instants, pending, state}
 

@@ -13,7 +13,7 @@ use Rattle.std.proofs.lemmas.List.{length-drop}
 use Rattle.cell.specs.Cell.{FULL, page_cells}
 use Rattle.cell.proofs.Chunks.{chunk-at}
 use Rattle.rows.proofs.Bytes.{worth}
-use Rattle.layout.specs.Layout.{word}
+use Rattle.rows.specs.Rows.{word}
 use Rattle.snapshot.specs.Asked.{first}
 use Rattle.snapshot.specs.Places.{cell_number, cells_number}
 use Rattle.snapshot.proofs.Fixed.{first-assoc, first-zero}

@@ -7,7 +7,8 @@ use borrow.Author.Tests.{lt-leb}
 use Rattle.std.proofs.lemmas.Bool.{and_parts}
 use Rattle.cell.specs.Cell.{at, page_bytes, page_cells, pages, array_bytes}
 use Rattle.flash.specs.Chip.{no_pages}
-use Rattle.layout.specs.Layout.{word, placed}
+use Rattle.rows.specs.Rows.{word}
+use Rattle.layout.specs.Layout.{placed}
 use Rattle.refusal.specs.declared.Refusal.{Refusal}
 use Rattle.refusal.specs.Refusal.{number}
 use Rattle.refusal.proofs.Outcomes.{number-some}

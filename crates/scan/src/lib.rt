@@ -7,7 +7,7 @@ pub mod state;
 
 ghost use Rattle.std.specs.Prelude.{◌≡◌, ◌+◌, ◌*◌, ◌/◌, ◌^◌, ◌<◌, ◌≤◌, length, if◌then◌else◌, nat_le, nat_lt, OnOk, IfOk};
 ghost use Rattle.cell.specs.Cell.{FULL, pages};
-ghost use Rattle.layout.specs.Layout.{word};
+ghost use Rattle.rows.specs.Rows.{word};
 ghost use Rattle.refusal.specs.Refusal.{told};
 ghost use Rattle.snapshot.specs.Places.{pages_place, count_in, cells_number, address_number, with_page, pages_number, pages_index, bytes_number, end_number, state_length, state_number, scan_number};
 

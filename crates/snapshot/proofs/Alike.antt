@@ -20,7 +20,8 @@ use Rattle.settle.proofs.Expose.{settled-slots}
 use Rattle.flash.specs.Chip.{Chip, chip, registers, cells, settled_at, sensed_at, sensed_after, step_if, step, answer, settled_answer}
 use Rattle.flash.specs.Looking.{charge_at, image_at, peek_at, all_blank, blank_at}
 use Rattle.flash.proofs.Answers.{settled-value, stored-value}
-use Rattle.layout.specs.Layout.{flag_byte, encoded, decoded, accepted, refused3}
+use Rattle.rows.specs.Rows.{flag_byte}
+use Rattle.layout.specs.Layout.{encoded, decoded, accepted, refused3}
 use Rattle.layout.proofs.Back.{decoded-index}
 use Rattle.layout.proofs.Accepted.{accepted-sound}
 use Rattle.lent.specs.declared.Request.{Request}

@@ -20,8 +20,9 @@ use Rattle.settle.specs.Pages.{opened, slots_sound}
 use Rattle.settle.proofs.Slots.{Slots, slots-from, opened-le}
 use Rattle.flash.specs.declared.Flash.{Flash}
 use Rattle.flash.specs.Chip.{no_pages}
-use Rattle.layout.specs.Layout.{record_length, encoded, decoded, placed, accepted, control_clear}
-use Rattle.layout.specs.Whole.{RowFits, Fits, PendingSound, Sound}
+use Rattle.layout.specs.Layout.{index_row, record_length, encoded, decoded, placed, accepted, control_clear}
+use Rattle.rows.specs.Rows.{Fills}
+use Rattle.layout.specs.Whole.{Fits, PendingSound, Sound}
 use Rattle.layout.proofs.Back.{decoded-index, decoded-fits, written-reads-back, length-encoded, bytes-encoded}
 use Rattle.layout.proofs.Accepted.{placed-says, placed-told, accepted-writes-back, accepted-sound, accepted-encoded}
 use Rattle.lent.proofs.Fitted.{Sizes, sizes-fit}
@@ -177,7 +178,7 @@ module _ (v : Contents) (g : GoodContents v) (t : Time) (ok : valid t (flash_in 
   abbrev index : List ℕ
   index = indexed 0 v.1.0 (no_pages pages)
 
-  index-good : (slots_sound index ≡ true) × (opened index ≡ length v.1.0) × RowFits pages 2 index
+  index-good : (slots_sound index ≡ true) × (opened index ≡ length v.1.0) × Fills index_row index
   index-good = good-index v.1.0 g.few g.pages
 
   fits : Fits (flash_in v)

@@ -11,8 +11,8 @@ use lib.ListN.{length, drop, length-drop}
 use lib.Seq.{drop-drop, get_or-drop}
 use lib.Dec.{ltb, leb, leb-suc-suc}
 use Rattle.cell.specs.Cell.{at}
-use Rattle.layout.specs.Layout.{word, row, flag_of}
-use Rattle.layout.proofs.Widths.{word-one}
+use Rattle.rows.specs.Rows.{word, row, flag_of}
+use Rattle.rows.proofs.Widths.{word-one}
 use Rattle.std.specs.Prelude.{Some, None}
 use Rattle.borsh.specs.Borsh.{Read, next, Borsh, int, only, mapped, enum, bool, ◌then◌, option, read_all, array}
 use Rattle.std.specs.Prelude.{Ok, Err}

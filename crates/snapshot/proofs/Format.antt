@@ -23,8 +23,9 @@ use Rattle.control.specs.Supplies.{supply_number, mode_number}
 use Rattle.cell.specs.Cell.{FULL, page_bytes, page_cells, pages, array_bytes}
 use Rattle.settle.specs.Pages.{holds}
 use Rattle.flash.specs.declared.Flash.{Flash}
-use Rattle.layout.specs.Layout.{supply_of, mode_of, placed}
-use Rattle.layout.specs.Whole.{RowFits, TimeFits, PendingFits, Fits}
+use Rattle.layout.specs.Layout.{latch_row, sensed_row, index_row, supply_of, mode_of, placed}
+use Rattle.rows.specs.Rows.{RowFits, Fills}
+use Rattle.layout.specs.Whole.{TimeFits, PendingFits, Fits}
 use Rattle.layout.proofs.Accepted.{supply-known, mode-known}
 use Rattle.borsh.specs.Borsh.{int, only, ◌then◌, array}
 use Rattle.borsh.proofs.Laws.{Lawful, Wide, Any, ◌and◌, same-lawful, int-lawful, only-lawful, mapped-lawful, enum_lawful, bool_lawful, then-lawful, GoodOption, option-lawful, vec-lawful, numbers-lawful}
@@ -111,8 +112,8 @@ same-page before p = refl
 
 abbrev pub GoodState : State → Type 0
 GoodState =
-    (Wide 1 and Any and Wide 1 and Any and Any) and (RowFits page_bytes 1 and Wide 2) and (Any and Any and Any and Any)
-    and (TimeFits and TimeFits and TimeFits and TimeFits and TimeFits and TimeFits and TimeFits) and PendingFits and RowFits 4 1
+    (Wide 1 and Any and Wide 1 and Any and Any) and (Fills latch_row and Wide 2) and (Any and Any and Any and Any)
+    and (TimeFits and TimeFits and TimeFits and TimeFits and TimeFits and TimeFits and TimeFits) and PendingFits and Fills sensed_row
 
 state-lawful : Lawful GoodState state
 unfolding state controls latched supplies instants
@@ -141,7 +142,7 @@ state-good s f =
       ),
     )
 
-pub good-fits : (v : State) (index : List ℕ) → GoodState v → RowFits pages 2 index → Fits (state_of v index)
+pub good-fits : (v : State) (index : List ℕ) → GoodState v → Fills index_row index → Fits (state_of v index)
 unfolding state_of
 good-fits v index (
   (control, (_, (erase, _))),

@@ -19,9 +19,9 @@ use Rattle.settle.proofs.Slots.{Slots, opened-le, opened-set, slots-from, slots-
 use Rattle.settle.proofs.Page.{slot_next, page-slots}
 use Rattle.flash.proofs.Fresh.{none_open}
 use Rattle.flash.specs.Chip.{no_pages}
-use Rattle.layout.specs.Layout.{placed}
+use Rattle.layout.specs.Layout.{index_row, placed}
 use Rattle.layout.proofs.Accepted.{placed-told}
-use Rattle.layout.specs.Whole.{RowFits}
+use Rattle.rows.specs.Rows.{Fills}
 use Rattle.snapshot.specs.Snapshot.{ChargePage, addresses, place_of, slot_pages, indexed, cells_of}
 use Rattle.snapshot.proofs.Good.{GoodPage, GoodPages}
 use Rattle.snapshot.proofs.Pigeon.{place_is, opened-none, slot-has-page}
@@ -208,7 +208,7 @@ entered-keeps (p ∷ ps) {before} {index} n g q k e =
     entered-keeps ps (entered-more n p g.0) g.1 q k (get_or-set_other index (p.0 / 128) q (suc (length before)) 0 m ∙ e)
 
 pub good-index : (ps : List ChargePage) → length ps ≤ 384 → GoodPages [] ps
-    → (slots_sound (indexed 0 ps (no_pages pages)) ≡ true) × (opened (indexed 0 ps (no_pages pages)) ≡ length ps) × RowFits pages 2 (indexed 0 ps (no_pages pages))
+    → (slots_sound (indexed 0 ps (no_pages pages)) ≡ true) × (opened (indexed 0 ps (no_pages pages)) ≡ length ps) × Fills index_row (indexed 0 ps (no_pages pages))
 good-index ps l g =
     let n = entered_all ps entered-none g in
     let c = n.count ∙ length-reverse ps in

@@ -2,8 +2,8 @@
 -- lengths, so the index keeps its place, and its entries are 384 at most. Assumes nothing.
 use mathlib.Core.Path.{◌≡◌, refl, ap, ◌∙◌}
 use mathlib.Core.Bool.{Bool, true, false, ◌&&◌}
-use mathlib.Core.List.{List, [], ◌∷◌, ◌++◌}
-use Prim.Native.Nat.{ℕ, zero, suc, ◌+◌, ◌*◌, ◌%◌, ◌^◌, ◌<◌}
+use mathlib.Core.List.{List}
+use Prim.Native.Nat.{ℕ, zero, suc, ◌%◌, ◌^◌, ◌<◌}
 use native.Mathlib.Omega.{arith}
 use lib.Dec.{eqb}
 use lib.ListN.{length, length-set}
@@ -29,19 +29,15 @@ use Rattle.settle.proofs.Slots.{Slots, SlotsOf, opened-le}
 use Rattle.settle.proofs.Expose.{settled-slots}
 use Rattle.flash.specs.declared.Flash.{Flash}
 use Rattle.flash.specs.Chip.{Chip, registers, cells, blank_sensed, sensed_after, step_if, step}
-use Rattle.layout.specs.Layout.{row, row_bytes, part, head_of, addresses_of, halves_of, rows_of, state_of, registers_of, encoded, rows_in, decoded}
-use Rattle.layout.specs.Whole.{RowFits}
+use Rattle.rows.specs.Rows.{Fills}
+use Rattle.layout.specs.Layout.{latch_row, sensed_row, index_row, layout, head_of, addresses_of, halves_of, rows_of, state_of, registers_of, encoded, rows_in, decoded}
 use Rattle.registers.specs.declared.Pulse.{Pulse}
-use Rattle.layout.proofs.Packed.{row-shift, length-row_bytes, length-row, unpacked-packed}
+use Rattle.rows.proofs.Packed.{length-row_in, part-packed}
 
 -- ---- the index in a record
 
--- a row after some bytes
-row-past : (n w : ℕ) (ps xs : List ℕ) (m k : ℕ) → length ps ≡ m → row n w (m + k) (ps ++ xs) ≡ row n w k xs
-row-past n w ps xs m k e = rw (← e) (row-shift n w ps xs k)
-
 -- an entry is 0 or a slot's number plus 1, and there are 384 slots
-pub index-fits : {index charges : List ℕ} → Slots index charges → RowFits 384 2 index
+pub index-fits : {index charges : List ℕ} → Slots index charges → Fills index_row index
 index-fits {index} inv = record { long = inv.pages; small = λ k. by k (at index k) refl }
   where
     by : (k v : ℕ) → at index k ≡ v → v < 256 ^ 2
@@ -49,32 +45,22 @@ index-fits {index} inv = record { long = inv.pages; small = λ k. by k (at index
     by k (suc s) e = omega (arith, inv.below k s e, opened-le index, inv.pages)
 
 pub record Long (s : Flash) : Type 0 where
-  pub latch : length s.registers.latch ≡ 128
-  pub sensed : length s.sensed ≡ 4
+  pub latch : length s.registers.latch ≡ latch_row.count
+  pub sensed : length s.sensed ≡ sensed_row.count
 
 pub decoded-long : (xs : List ℕ) → Long (decoded xs)
 unfolding decoded state_of registers_of rows_in
-decoded-long xs = record { latch = length-row 128 1 142 xs; sensed = length-row 4 1 270 xs }
+decoded-long xs = record { latch = length-row_in layout 3 xs; sensed = length-row_in layout 4 xs }
 
 index_back : (s : Flash) {charges : List ℕ} → Long s → Slots s.indices charges → (decoded (encoded s)).indices ≡ s.indices
 unfolding decoded state_of rows_in encoded rows_of head_of addresses_of halves_of
 index_back s l inv =
-    let r = s.registers in
-    let v = row_bytes 2 s.indices ++ [] in
-    let sensed = row_bytes 1 s.sensed ++ v in
-    let latch = row_bytes 1 r.latch ++ sensed in
-    let halves = row_bytes 8 (halves_of r s.pulse_since) ++ latch in
-    row-past 384 2 (row_bytes 1 (head_of r)) (row_bytes 2 (addresses_of r) ++ halves) 10 264 (length-row_bytes 1 (head_of r))
-    ∙ row-past 384 2 (row_bytes 2 (addresses_of r)) halves 4 260 (length-row_bytes 2 (addresses_of r))
-    ∙ row-past 384 2 (row_bytes 8 (halves_of r s.pulse_since)) latch 128 132 (length-row_bytes 8 (halves_of r s.pulse_since))
-    ∙ row-past 384 2 (row_bytes 1 r.latch) sensed 128 4 (length-row_bytes 1 r.latch ∙ ap (λ n. n * 1) l.latch)
-    ∙ row-past 384 2 (row_bytes 1 s.sensed) v 4 0 (length-row_bytes 1 s.sensed ∙ ap (λ n. n * 1) l.sensed)
-    ∙ ap (λ rows. part rows 0) (unpacked-packed (record { count = 384; width = 2 } ∷ []) (s.indices ∷ []) (index-fits inv, tt))
+    part-packed layout (rows_of s) 5 (omega arith) (refl, (refl, (refl, (l.latch, (l.sensed, tt))))) (index-fits inv)
 
 -- ---- a call keeps the lengths
 
 abbrev LatchLong : Registers → Type 0
-LatchLong r = length r.latch ≡ 128
+LatchLong r = length r.latch ≡ latch_row.count
 
 module _ (now : Time) (r : Registers) (h : LatchLong r) where
   settled-long : LatchLong (settled now r)
@@ -112,12 +98,12 @@ module _ (now : Time) (r : Registers) (h : LatchLong r) where
       let s = settled-long in
       either LatchLong (unchanged mode modul oscillator r) h (either LatchLong (clears mode modul r) s s)
 
-sensed-long : (r : Registers) (now : Time) (c : Cells) (old : List ℕ) → length old ≡ 4 → length (sensed_by r now c old) ≡ 4
+sensed-long : (r : Registers) (now : Time) (c : Cells) (old : List ℕ) → length old ≡ sensed_row.count → length (sensed_by r now c old) ≡ sensed_row.count
 unfolding sensed_by four_sensed
 sensed-long r now c old h =
-    either (λ (xs : List ℕ). length xs ≡ 4) (sense_due r.verify_pending r.supply now && verifies r.control) refl h
+    either (λ (xs : List ℕ). length xs ≡ sensed_row.count) (sense_due r.verify_pending r.supply now && verifies r.control) refl h
 
-after-long : (c : Call) (sensed : List ℕ) → length sensed ≡ 4 → length (sensed_after c sensed) ≡ 4
+after-long : (c : Call) (sensed : List ℕ) → length sensed ≡ sensed_row.count → length (sensed_after c sensed) ≡ sensed_row.count
 unfolding blank_sensed
 after-long (WriteRegister a v) sensed h = h
 after-long (Write8 a v) sensed h = h

@@ -13,7 +13,8 @@ use lib.Dec.{ltb, leb, eqb}
 use Rattle.cell.specs.Cell.{at, FULL, page_bytes, page_cells, pages}
 use Rattle.settle.specs.Pages.{holds}
 use Rattle.flash.specs.Chip.{no_pages}
-use Rattle.layout.specs.Layout.{word, row, placed}
+use Rattle.rows.specs.Rows.{word, row}
+use Rattle.layout.specs.Layout.{placed}
 use Rattle.borsh.specs.Borsh.{read_all, array, vec}
 use Rattle.snapshot.specs.Snapshot.{ChargePage, addresses, charge, charge_page, indexed, cells_of}
 use Rattle.snapshot.specs.Asked.{first}

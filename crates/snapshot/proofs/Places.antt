@@ -14,8 +14,8 @@ use lib.Dec.{ltb, leb}
 use Rattle.time.specs.declared.Time.{Time}
 use Rattle.cell.specs.Cell.{at, pages, array_bytes}
 use Rattle.flash.specs.Chip.{no_pages}
-use Rattle.layout.specs.Layout.{row}
-use Rattle.layout.proofs.Widths.{word-one}
+use Rattle.rows.specs.Rows.{row}
+use Rattle.rows.proofs.Widths.{word-one}
 use Rattle.lent.specs.Memory.{Memory}
 use Rattle.borsh.specs.Borsh.{Borsh}
 use Rattle.std.specs.Prelude.{Ok}

@@ -12,8 +12,9 @@ use Rattle.time.proofs.Laws.{instant-raw}
 use Rattle.control.specs.declared.PendingSense.{PendingSense}
 use Rattle.std.specs.Prelude.{Option, Some, None}
 use Rattle.cell.specs.Cell.{at}
-use Rattle.layout.specs.Layout.{word, row, flag_of, supply_of, mode_of}
-use Rattle.layout.proofs.Widths.{word_split, word_small}
+use Rattle.rows.specs.Rows.{word, row, flag_of}
+use Rattle.layout.specs.Layout.{supply_of, mode_of}
+use Rattle.rows.proofs.Widths.{word_split, word_small}
 use Rattle.borsh.specs.Borsh.{Borsh, int, bool, array, ◌then◌}
 use Rattle.snapshot.specs.Snapshot.{State, time, pending_in, option_of, pending, supply, mode, controls, latched, supplies, instants, state, state_of}
 use Rattle.snapshot.specs.Asked.{first}

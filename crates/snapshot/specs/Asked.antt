@@ -8,8 +8,9 @@ use Rattle.time.specs.Raw.{raw}
 use Rattle.cell.specs.Cell.{page_bytes}
 use Rattle.control.specs.declared.PendingSense.{PendingSense}
 use Rattle.flash.specs.declared.Flash.{Flash}
-use Rattle.layout.specs.Layout.{encoded, decoded, flag_byte, control_clear, placed, legible, rows_in, refused3}
-use Rattle.lent.specs.Memory.{Memory, lent, chip_in, check, first_given, record_misfits, misfits, last_second}
+use Rattle.rows.specs.Rows.{flag_byte}
+use Rattle.layout.specs.Layout.{encoded, decoded, control_clear, placed, legible, rows_in, refused3}
+use Rattle.lent.specs.Memory.{Memory, chip_in, check, first_given, record_misfits, misfits, last_second, lent}
 use Rattle.borsh.specs.Borsh.{Read}
 use Rattle.std.specs.Prelude.{Ok, Err}
 use Rattle.snapshot.specs.Snapshot.{Contents, snapshot, snapshot_of, cells_of, flash_in}

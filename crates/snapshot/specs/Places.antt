@@ -10,8 +10,9 @@ use Rattle.cell.specs.Cell.{at, FULL, page_bytes, page_cells, pages, array_bytes
 use Rattle.registers.specs.declared.Registers.{Registers}
 use Rattle.flash.specs.declared.Flash.{Flash}
 use Rattle.flash.specs.Chip.{no_pages}
-use Rattle.layout.specs.Layout.{word, row, encoded, flag_of, supply_of, mode_of, pending_of, placed}
-use Rattle.lent.specs.Memory.{Memory, lent, check, first_given}
+use Rattle.rows.specs.Rows.{word, row, flag_of}
+use Rattle.layout.specs.Layout.{encoded, supply_of, mode_of, pending_of, placed}
+use Rattle.lent.specs.Memory.{Memory, check, first_given, lent}
 use Rattle.snapshot.specs.Asked.{valid, first}
 
 -- ---- places

@@ -1,7 +1,8 @@
 -- `checks::in_range` meets its contract: what is read are the numbers of the record's rows.
 -- Assumes nothing.
-use Rattle.layout.proofs.Widths.{word-one}
-use Rattle.layout.specs.Layout.{rows_in, in_range, row}
+use Rattle.rows.proofs.Widths.{word-one}
+use Rattle.rows.specs.Rows.{row}
+use Rattle.layout.specs.Layout.{rows_in, in_range}
 use Rattle.checks.proofs.in_range.Goals as goal
 
 pub returns : goal.returns

@@ -7,16 +7,17 @@ use Prim.Native.Nat.{ℕ}
 use mathlib.Core.Bool.{Bool, ◌&&◌}
 use mathlib.Core.List.{List, [], ◌∷◌}
 use mathlib.Core.Path.{◌≡◌, refl, sym}
-use Rattle.layout.specs.Layout.{row, time_of, head_known, nothing_clear, rows_in, legible}
+use Rattle.rows.specs.Rows.{row, row_in}
+use Rattle.layout.specs.Layout.{layout, halves_at, time_of, head_known, nothing_clear, rows_in, legible}
 use Rattle.checks.proofs.legible.Goals as goal
 
 told : (xs h a v n : List ℕ) (instant : Time) (p q r : Bool) → p ≡ head_known h → q ≡ nothing_clear (at h 9) (at a 1) instant → r ≡ slots_sound n
-    → h ≡ row 10 1 0 xs → a ≡ row 2 2 10 xs → v ≡ row 2 8 126 xs → n ≡ row 384 2 274 xs → v ≡ instant.0 ∷ instant.1 ∷ [] → (p && q && r) ≡ legible (rows_in xs)
+    → h ≡ row_in layout 0 xs → a ≡ row_in layout 1 xs → v ≡ halves_at 7 xs → n ≡ row_in layout 5 xs → v ≡ instant.0 ∷ instant.1 ∷ [] → (p && q && r) ≡ legible (rows_in xs)
 unfolding legible rows_in row
 told xs h a v n instant p q r ep eq er eh ea ev en ei =
     let halves = rw ev at ei in
     -- the last instant of eight, by its halves
-    let last : instant ≡ time_of (row 16 8 14 xs) 14 = λ i. record { 0 = at (sym halves i) 0; 1 = at (sym halves i) 1 } in
+    let last : instant ≡ time_of (row_in layout 2 xs) 14 = λ i. record { 0 = at (sym halves i) 0; 1 = at (sym halves i) 1 } in
     rw (ep, eq, er, eh, ea, en, last) refl
 
 pub returns : goal.returns

@@ -2,8 +2,9 @@
 -- Assumes nothing.
 use mathlib.Core.List.{[], ◌++◌}
 use mathlib.Core.Path.{refl, ◌∙◌}
-use Rattle.layout.proofs.Runs.{row-after}
-use Rattle.layout.specs.Layout.{row_bytes, head_of, addresses_of, halves_of}
+use Rattle.rows.proofs.Runs.{row-next}
+use Rattle.rows.specs.Rows.{row_bytes}
+use Rattle.layout.specs.Layout.{layout, head_of, addresses_of, halves_of}
 use Rattle.coding.proofs.put_scalars.Goals as goal
 
 pub returns : goal.returns
@@ -13,6 +14,6 @@ returns c =
     let r = x.registers in
     let m = c.put_row.new.to in
     let n = c.put_row-2.new.to in
-    let e = row-after 1 0 10 10 x.«record».now m _ (head_of r) [] c.head_of.ensures refl refl c.put_row.ensures refl in
-    let f = row-after 2 10 2 14 m n _ (addresses_of r) (row_bytes 1 (head_of r)) c.addresses_of.ensures refl refl c.put_row-2.ensures e in
-    row-after 8 14 16 142 n _ _ (halves_of r x.since) (row_bytes 1 (head_of r) ++ row_bytes 2 (addresses_of r)) (c.as_flattened.ensures.value ∙ c.halves_of.ensures) refl refl c.put_row-3.ensures f
+    let e = row-next layout 0 x.«record».now m _ (head_of r) [] c.head_of.ensures refl c.put_row.ensures refl in
+    let f = row-next layout 1 m n _ (addresses_of r) (row_bytes 1 (head_of r)) c.addresses_of.ensures refl c.put_row-2.ensures e in
+    row-next layout 2 n _ _ (halves_of r x.since) (row_bytes 1 (head_of r) ++ row_bytes 2 (addresses_of r)) (c.as_flattened.ensures.value ∙ c.halves_of.ensures) refl c.put_row-3.ensures f

@@ -4,8 +4,8 @@ use mathlib.Core.Path.{◌≡◌, ap, ◌∙◌}
 use Prim.Native.Nat.{ℕ}
 use lib.ListN.{length}
 use native.Mathlib.Omega.{arith}
-use Rattle.layout.proofs.Runs.{filled-turn, filled-all}
-use Rattle.layout.specs.Layout.{row}
+use Rattle.rows.proofs.Runs.{filled-turn, filled-all}
+use Rattle.rows.specs.Rows.{row}
 use Rattle.rows.proofs.Values.{length-numbers, numbers-set}
 use Rattle.rows.proofs.get_row.Goals as goal
 

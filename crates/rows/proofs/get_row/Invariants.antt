@@ -1,7 +1,7 @@
 -- `rows::get_row` meets its contract. The loop's invariant: the places passed have the row's numbers.
 -- Assumes nothing.
 use mathlib.Core.Path.{◌≡◌}
-use Rattle.layout.proofs.Runs.{filled}
+use Rattle.rows.proofs.Runs.{filled}
 use Rattle.rows.proofs.get_row.Given as goal
 
 abbrev pub invariant-loop-k : goal.invariant-loop-k

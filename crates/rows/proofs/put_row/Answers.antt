@@ -3,7 +3,7 @@
 use mathlib.Core.Path.{◌≡◌, refl}
 use Prim.Native.Nat.{◌+◌, ◌*◌}
 use lib.ListN.{length, get_or}
-use Rattle.layout.proofs.Runs.{start, more}
+use Rattle.rows.proofs.Runs.{start, more}
 use native.Mathlib.Omega.{arith}
 use Rattle.rows.proofs.Values.{length-numbers, get_or-numbers}
 use Rattle.rows.proofs.put_row.Goals as goal

@@ -1,6 +1,6 @@
 -- `rows::put_row` meets its contract. The loop's invariant: the bytes of the numbers passed stand after what was there.
 -- Assumes nothing.
-use Rattle.layout.specs.Layout.{row_bytes}
+use Rattle.rows.specs.Rows.{row_bytes}
 use mathlib.Core.List.{◌++◌}
 use lib.ListN.{length, take}
 use Prim.Native.Nat.{◌+◌, ◌*◌}

@@ -4,8 +4,8 @@ use mathlib.Core.Path.{◌≡◌, refl, ◌∙◌}
 use mathlib.Core.List.{append_assoc}
 use Prim.Native.Nat.{◌+◌}
 use lib.ListN.{length, take}
-use Rattle.layout.specs.Layout.{bytes, row_bytes}
-use Rattle.layout.proofs.Runs.{row-after}
+use Rattle.rows.specs.Rows.{bytes, row_bytes}
+use Rattle.rows.proofs.Runs.{row-after}
 use Rattle.snapshot.specs.Snapshot.{state_fields}
 use Rattle.save.proofs.Runs.{after, latched-row}
 use native.Mathlib.Omega.{arith}

@@ -5,8 +5,8 @@ use mathlib.Core.List.{append_assoc}
 use Prim.Native.Nat.{◌+◌}
 use lib.ListN.{set, length-set}
 use Rattle.time.specs.Raw.{raw}
-use Rattle.layout.specs.Layout.{bytes}
-use Rattle.layout.proofs.Runs.{put_one}
+use Rattle.rows.specs.Rows.{bytes}
+use Rattle.rows.proofs.Runs.{put_one}
 use Rattle.save.proofs.Runs.{after, nothing-row, sense-row}
 use native.Mathlib.Omega.{arith}
 use Rattle.save.proofs.put_pending.Goals as goal

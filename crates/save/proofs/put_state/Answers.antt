@@ -5,7 +5,7 @@ use mathlib.Core.List.{append_assoc}
 use Prim.Native.Nat.{◌+◌, ◌*◌}
 use lib.ListN.{length}
 use Rattle.layout.specs.Layout.{option_byte}
-use Rattle.layout.proofs.Runs.{row-after}
+use Rattle.rows.proofs.Runs.{row-after}
 use Rattle.snapshot.specs.Snapshot.{latched, supplies, instants, pending, state_fields}
 use Rattle.save.proofs.Runs.{after, state-row}
 use native.Mathlib.Omega.{arith}

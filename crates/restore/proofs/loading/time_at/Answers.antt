@@ -3,7 +3,7 @@
 use native.Mathlib.Omega.{arith}
 use mathlib.Core.Path.{◌∙◌}
 use Rattle.time.proofs.Laws.{same-raw}
-use Rattle.layout.proofs.Widths.{word_small}
+use Rattle.rows.proofs.Widths.{word_small}
 use Rattle.snapshot.specs.Places.{time_at}
 use Rattle.snapshot.proofs.StateRead.{word-raw}
 use Rattle.restore.proofs.loading.time_at.Goals as goal

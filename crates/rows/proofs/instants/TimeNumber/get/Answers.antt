@@ -2,7 +2,7 @@
 -- Assumes nothing.
 use native.Mathlib.Omega.{arith}
 use Rattle.time.specs.Raw.{raw}
-use Rattle.layout.proofs.Widths.{word_split}
+use Rattle.rows.proofs.Widths.{word_split}
 use Rattle.rows.proofs.instants.TimeNumber.get.Goals as goal
 
 pub returns : goal.returns

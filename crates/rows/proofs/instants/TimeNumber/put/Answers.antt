@@ -6,8 +6,8 @@ use Prim.Native.Nat.{◌+◌, ◌*◌, ◌^◌}
 use lib.ListN.{take}
 use native.Mathlib.Omega.{arith}
 use Rattle.time.specs.Raw.{raw}
-use Rattle.layout.specs.Layout.{bytes}
-use Rattle.layout.proofs.Widths.{bytes-split}
+use Rattle.rows.specs.Rows.{bytes}
+use Rattle.rows.proofs.Widths.{bytes-split}
 use Rattle.rows.proofs.instants.TimeNumber.put.Goals as goal
 
 pub returns : goal.returns

@@ -1,7 +1,7 @@
 -- A `u8` is read as it stands.
 -- Assumes nothing.
 use mathlib.Core.Path.{sym}
-use Rattle.layout.proofs.Widths.{word-one}
+use Rattle.rows.proofs.Widths.{word-one}
 use Rattle.rows.proofs.numbers.U8Number.get.Goals as goal
 
 pub returns : goal.returns

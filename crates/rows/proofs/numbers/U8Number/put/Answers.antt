@@ -1,6 +1,6 @@
 -- A `u8` is one byte stored.
 -- Assumes nothing.
-use Rattle.layout.proofs.Runs.{put_one}
+use Rattle.rows.proofs.Runs.{put_one}
 use native.Mathlib.Omega.{arith}
 use Rattle.rows.proofs.numbers.U8Number.put.Goals as goal
 

@@ -2,15 +2,15 @@
 -- Assumes nothing.
 use mathlib.Core.Path.{◌≡◌, refl, sym, ap, ◌∙◌}
 use mathlib.Core.List.{List, [], ◌∷◌, ◌++◌, append_assoc, append-nil}
-use Prim.Native.Nat.{ℕ, suc, ◌+◌, ◌*◌, ◌%◌, ◌<◌}
-use native.Mathlib.Nat.{add-zero, mul-zero, mul-suc, add_assoc}
+use Prim.Native.Nat.{ℕ, zero, suc, ◌+◌, ◌*◌, ◌%◌, ◌<◌}
+use native.Mathlib.Nat.{add-zero, mul-zero, mul-suc, mul_comm, add_assoc}
 use native.Mathlib.Numerals.{add-one}
 use native.Mathlib.Omega.{arith}
 use lib.ListN.{length, get_or, set, take}
 use lib.Seq.{take_all, take-suc, take-suc-set}
 use Rattle.cell.specs.Cell.{mapi}
 use Rattle.cell.proofs.Partly.{partly, partly-turn, partly-all}
-use Rattle.layout.specs.Layout.{word, bytes, row, row_bytes}
+use Rattle.rows.specs.Rows.{Field, word, bytes, row, row_bytes, field, begins}
 
 -- ---- reading
 
@@ -72,3 +72,15 @@ put_one l k b h s = let e : b % 256 ≡ b = omega arith in rw (add-one k, e) (ta
 pub row-after : (w k n m : ℕ) (l l' v v' ys : List ℕ) → v ≡ v' → length v' ≡ n → m ≡ k + w * n
     → take (k + w * length v) l' ≡ take k l ++ row_bytes w v → take k l ≡ ys → take m l' ≡ ys ++ row_bytes w v'
 row-after w k n m l l' v v' ys e f d g h = rw (d, ← f, ← e, g, h)
+
+-- the row k of a list of fields, written after those before it
+begins-suc : (fs : List Field) (k : ℕ) → begins fs (suc k) ≡ begins fs k + (field fs k).width * (field fs k).count
+begins-suc [] zero = refl
+begins-suc [] (suc k) = refl
+begins-suc (f ∷ fs) zero = rw (mul_comm f.width f.count) (omega arith)
+begins-suc (f ∷ fs) (suc k) = rw (begins-suc fs k) (omega arith)
+
+pub row-next : (fs : List Field) (k : ℕ) (l l' v v' ys : List ℕ) → v ≡ v' → length v' ≡ (field fs k).count
+    → take (begins fs k + (field fs k).width * length v) l' ≡ take (begins fs k) l ++ row_bytes (field fs k).width v
+    → take (begins fs k) l ≡ ys → take (begins fs (suc k)) l' ≡ ys ++ row_bytes (field fs k).width v'
+row-next fs k l l' v v' ys e f = row-after (field fs k).width (begins fs k) (field fs k).count (begins fs (suc k)) l l' v v' ys e f (begins-suc fs k)

@@ -9,9 +9,8 @@ use lib.ListN.{length, take, drop, length-append, take-append-drop}
 use lib.Seq.{take-add, drop-drop, drop-length}
 use lib.Dec.{lit<}
 use Rattle.cell.specs.Cell.{at}
-use Rattle.layout.specs.Layout.{Field, bytes, row, row_bytes, size, packed, unpacked}
-use Rattle.layout.specs.Whole.{RowFits}
-use Rattle.layout.proofs.Widths.{length-bytes, word-shift, word_bytes, bytes_word, bytes_small, word_small}
+use Rattle.rows.specs.Rows.{Field, RowFits, Fills, bytes, row, row_bytes, size, packed, unpacked, part, field, begins, row_in}
+use Rattle.rows.proofs.Widths.{length-bytes, word-shift, word_bytes, bytes_word, bytes_small, word_small}
 
 -- ---- one row: written, then read
 
@@ -58,6 +57,9 @@ unfolding row
 length-row zero w k xs = refl
 length-row (suc n) w k xs = ap suc (length-row n w (k + w) xs)
 
+pub length-row_in : (fs : List Field) (k : ℕ) (xs : List ℕ) → length (row_in fs k xs) ≡ (field fs k).count
+length-row_in fs k xs = length-row (field fs k).count (field fs k).width (begins fs k) xs
+
 row_small : (n w k : ℕ) (xs : List ℕ) → ((j : ℕ) → at xs j < 256) → (j : ℕ) → at (row n w k xs) j < 256 ^ w
 unfolding row
 row_small zero w k xs b j = one-le-pow w 256 (lit< tt)
@@ -74,7 +76,7 @@ abbrev pub RowsFit : List Field → List (List ℕ) → Type 0
 RowsFit [] [] = Unit
 RowsFit [] (vs ∷ rows) = ⊥
 RowsFit (f ∷ fs) [] = ⊥
-RowsFit (f ∷ fs) (vs ∷ rows) = RowFits f.count f.width vs × RowsFit fs rows
+RowsFit (f ∷ fs) (vs ∷ rows) = Fills f vs × RowsFit fs rows
 
 unpacked-shift : (fs : List Field) (ps xs : List ℕ) (k : ℕ) → unpacked fs (length ps + k) (ps ++ xs) ≡ unpacked fs k xs
 unpacked-shift [] ps xs k = refl
@@ -85,6 +87,9 @@ unpacked-shift (f ∷ fs) ps xs k =
       unpacked-shift fs ps xs (k + f.count * f.width),
     )
 
+unpacked-behind : (fs : List Field) (ps xs : List ℕ) (n : ℕ) → length ps ≡ n → unpacked fs (0 + n) (ps ++ xs) ≡ unpacked fs 0 xs
+unpacked-behind fs ps xs n e = rw (zero-add n, ← e) (rw (add-zero (length ps)) at (unpacked-shift fs ps xs 0))
+
 -- what is packed is unpacked as it was
 pub unpacked-packed : (fs : List Field) (rows : List (List ℕ)) → RowsFit fs rows → unpacked fs 0 (packed fs rows) ≡ rows
 unpacked-packed [] [] h = refl
@@ -94,9 +99,28 @@ unpacked-packed (f ∷ fs) (vs ∷ rows) h =
     let w = f.width in
     let p = packed fs rows in
     let ps = row_bytes w vs in
-    let l : length ps ≡ f.count * w = rw (← h.0.long) (length-row_bytes w vs) in
-    let s : unpacked fs (0 + f.count * w) (ps ++ p) ≡ unpacked fs 0 p = rw (zero-add (f.count * w), ← l) (rw (add-zero (length ps)) at (unpacked-shift fs ps p 0)) in
+    let s = unpacked-behind fs ps p (f.count * w) (rw (← h.0.long) (length-row_bytes w vs)) in
     rw (s, unpacked-packed fs rows h.1) (ap (λ (l : List ℕ). l ∷ rows) (rw (← h.0.long) (row-row_bytes w vs p h.0.small)))
+
+-- each of the first k rows is as long as its field says
+abbrev pub LongBefore : ℕ → List Field → List (List ℕ) → Type 0
+LongBefore zero fs rows = Unit
+LongBefore (suc k) [] rows = ⊥
+LongBefore (suc k) (f ∷ fs) [] = ⊥
+LongBefore (suc k) (f ∷ fs) (vs ∷ rows) = (length vs ≡ f.count) × LongBefore k fs rows
+
+-- The row k is unpacked as it was, whatever numbers the rows before it have and whatever follows it.
+pub part-packed : (fs : List Field) (rows : List (List ℕ)) (k : ℕ) → k < length fs → LongBefore k fs rows → Fills (field fs k) (part rows k)
+    → part (unpacked fs 0 (packed fs rows)) k ≡ part rows k
+unfolding row
+part-packed [] rows k i l h = absurd (omega arith)
+part-packed (f ∷ fs) [] zero i l h = rw (← h.long)
+part-packed (f ∷ fs) [] (suc k) i l h = absurd l
+part-packed (f ∷ fs) (vs ∷ rows) zero i l h = rw (← h.long) (row-row_bytes f.width vs (packed fs rows) h.small)
+part-packed (f ∷ fs) (vs ∷ rows) (suc k) i l h =
+    let w = f.width in
+    let s = unpacked-behind fs (row_bytes w vs) (packed fs rows) (f.count * w) (rw (← l.0) (length-row_bytes w vs)) in
+    ap (λ rows. part rows k) s ∙ part-packed fs rows k (omega arith) l.1 h
 
 -- what is unpacked is packed again to the same bytes
 pub packed-unpacked : (fs : List Field) (k : ℕ) (xs : List ℕ) → ((j : ℕ) → at xs j < 256) → k + size fs ≡ length xs

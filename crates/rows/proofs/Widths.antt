@@ -9,7 +9,7 @@ use lib.ListN.{length, take, drop}
 use lib.Dec.{lit<}
 use lib.Seq.{drop-cons, get_or-append-add}
 use Rattle.cell.specs.Cell.{at}
-use Rattle.layout.specs.Layout.{word, bytes}
+use Rattle.rows.specs.Rows.{word, bytes}
 
 -- ---- one byte
 
