@@ -14,7 +14,7 @@ use Rattle.rows.specs.Rows.{word, bytes, flag_byte, flag_of}
 use Rattle.rows.proofs.Widths.{length-bytes, word_bytes, bytes_word, word_small}
 use Rattle.rows.proofs.Flags.{flag-known}
 use Rattle.std.specs.Prelude.{Option, Some, None}
-use Rattle.borsh.specs.Borsh.{Read, next, Borsh, int, only, mapped, enum, bool, ◌then◌, option, write_option, write_all, read_all, array, vec}
+use Rattle.borsh.specs.Borsh.{Refused, refused, Read, next, Borsh, int, only, mapped, enum, bool, ◌then◌, option, write_option, write_all, read_all, array, vec}
 use Rattle.std.specs.Prelude.{Ok, Err}
 
 infixr 4 ◌and◌
@@ -44,7 +44,7 @@ abbrev pub ◌and◌ : {A B : Type 0} → (A → Type 0) → (B → Type 0) → 
 
 data Reads {A : Type 0} (P : A → List ℕ → Type 0) : Read A → Type 0 where
   is-got : (v : A) (rest : List ℕ) → P v rest → Reads P (Ok (v, rest))
-  is-refused : {n : ℕ} → Reads P (Err n)
+  is-refused : {r : Refused} → Reads P (Err r)
 
 got-reads : {A : Type 0} {P : A → List ℕ → Type 0} {v : A} {rest : List ℕ} → Reads P (Ok (v, rest)) → P v rest
 got-reads (is-got v rest p) = p
@@ -68,7 +68,7 @@ reads {A} {Good} {f} l xs b = by (f.read xs) refl
   where
     by : (r : Read A) → f.read xs ≡ r → Reads (Exact Good f.write xs) r
     by (Ok (v, rest)) e = is-got v rest (l.exact xs b v rest e)
-    by (Err n) e = is-refused
+    by (Err r) e = is-refused
 
 lawful : {A : Type 0} {Good : A → Type 0} {f : Borsh A} → ((v : A) → Good v → (rest : List ℕ) → f.read (f.write v ++ rest) ≡ Ok (v, rest))
     → ((xs : List ℕ) → Bytes xs → Reads (Exact Good f.write xs) (f.read xs)) → Lawful Good f
@@ -91,7 +91,7 @@ int-lawful n = lawful back exact
     exact : (xs : List ℕ) → Bytes xs → Reads (Exact (Wide n) (bytes n) xs) ((int n).read xs)
     exact xs b = by (ltb (length xs) n) refl
       where
-        by : (s : Bool) → ltb (length xs) n ≡ s → Reads (Exact (Wide n) (bytes n) xs) (cond s (Err 9) (Ok (word n xs 0, drop n xs)))
+        by : (s : Bool) → ltb (length xs) n ≡ s → Reads (Exact (Wide n) (bytes n) xs) (cond s (Err (refused 9)) (Ok (word n xs 0, drop n xs)))
         by true e = is-refused
         by false e =
             let long : 0 + n ≤ length xs = omega (arith, ltb-false (length xs) n e) in
@@ -114,7 +114,7 @@ module _ {A : Type 0} {Good : A → Type 0} {f : Borsh A} (l : Lawful Good f) wh
       (λ xs b. next-reads (reads l xs b) λ v rest x. by xs v rest x (allowed v) refl)
     where
       by : (xs : List ℕ) (v : A) (rest : List ℕ) → Exact Good f.write xs v rest → (s : Bool) → allowed v ≡ s
-          → Reads (Exact (λ v. Good v × (allowed v ≡ true)) f.write xs) (cond s (Ok (v, rest)) (Err 10))
+          → Reads (Exact (λ v. Good v × (allowed v ≡ true)) f.write xs) (cond s (Ok (v, rest)) (Err (refused 10)))
       by xs v rest x true e = is-got v rest (x.0, ((x.1.0, e), x.1.1))
       by xs v rest x false e = is-refused
 

@@ -8,14 +8,21 @@ use Rattle.rows.specs.Rows.{word, bytes, flag_byte, flag_of}
 infixr 4 ◌then◌
 -- ---- formats
 
--- What reading gives: a value and the bytes after it, or a refusal's number.
+-- Why reading is refused.
+pub record Refused : Type 0 where
+  pub number : ℕ
+
+abbrev pub refused : ℕ → Refused
+refused n = record { number = n }
+
+-- What reading gives: a value and the bytes after it, or a refusal.
 abbrev pub Read : Type 0 → Type 0
-Read A = Result (A × List ℕ) ℕ
+Read A = Result (A × List ℕ) Refused
 
 -- Reading goes on with the bytes after a value.
 abbrev pub next : {A B : Type 0} → (A → List ℕ → Read B) → Read A → Read B
 next f (Ok (v, rest)) = f v rest
-next f (Err n) = Err n
+next f (Err r) = Err r
 
 pub record Borsh (A : Type 0) : Type 0 where
   pub write : A → List ℕ
@@ -25,12 +32,12 @@ pub record Borsh (A : Type 0) : Type 0 where
 
 -- An integer of n bytes. 9: the bytes end early.
 unfoldable pub int : ℕ → Borsh ℕ
-int n = record { write = bytes n; read = λ xs. cond (ltb (length xs) n) (Err 9) (Ok (word n xs 0, drop n xs)) }
+int n = record { write = bytes n; read = λ xs. cond (ltb (length xs) n) (Err (refused 9)) (Ok (word n xs 0, drop n xs)) }
 
 -- Not every value is allowed. 10: this one is not.
 unfoldable pub only : {A : Type 0} → (A → Bool) → Borsh A → Borsh A
 only allowed f =
-    record { write = f.write; read = λ xs. next (λ v rest. cond (allowed v) (Ok (v, rest)) (Err 10)) (f.read xs) }
+    record { write = f.write; read = λ xs. next (λ v rest. cond (allowed v) (Ok (v, rest)) (Err (refused 10))) (f.read xs) }
 
 -- the values of another type
 unfoldable pub mapped : {A B : Type 0} → (A → B) → (B → A) → Borsh A → Borsh B

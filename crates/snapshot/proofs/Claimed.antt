@@ -2,7 +2,7 @@
 -- pages give back the page index, and the state is valid but for its erase register and the time. What is read and accepted is good, so that
 -- its charge pages and their index give each other back. Assumes nothing.
 use mathlib.Core.Path.{◌≡◌, refl, sym, ap, ◌∙◌}
-use mathlib.Core.Bool.{Bool, true, false, cond, not, ◌&&◌, true≢false}
+use mathlib.Core.Bool.{true, false, cond, not, ◌&&◌, and-false, true≢false}
 use mathlib.Core.List.{List, [], ◌∷◌, ◌++◌, append-nil}
 use Prim.Native.Nat.{ℕ, zero, suc, ◌+◌, ◌*◌, ◌≤◌, ◌<◌}
 use native.Mathlib.Omega.{arith}
@@ -31,7 +31,7 @@ use Rattle.lent.specs.Memory.{Memory, lent, chip_in, misfits, last_second, too_e
 use Rattle.borsh.specs.Borsh.{Read}
 use Rattle.std.specs.Prelude.{Ok}
 use Rattle.snapshot.specs.Snapshot.{ChargePage, Contents, snapshot, contents_of, snapshot_of, state_fields, state_of, indexed, cells_of, flash_in}
-use Rattle.snapshot.specs.Asked.{pending_placed, valid, judged, read_refusal, restored, memory_read}
+use Rattle.snapshot.specs.Asked.{pending_placed, valid_but_erase, erase_valid, valid, judged, read_refusal, restored, memory_read}
 use Rattle.snapshot.specs.Claim.{Bytes, in_use, Whole, Snapshots}
 use Rattle.snapshot.proofs.Fixed.{first-zero}
 use Rattle.snapshot.proofs.Good.{GoodPages}
@@ -59,42 +59,36 @@ pending-told None h = refl
 pending-told (Some p) h = placed-told p.address 4 h.0 h.1
 
 -- a sound state is valid if its erase register is, and the time
-valid-told : (t : Time) (s : Flash) → Sound s → valid t s ≡ (ltb s.registers.erase 64 && leb (raw s.pulse_since) (raw t))
-unfolding valid
+valid-told : (t : Time) (s : Flash) → Sound s → valid t s ≡ (leb (raw s.pulse_since) (raw t) && erase_valid s)
+unfolding valid valid_but_erase
 valid-told t s h =
     rw (
       lt-ltb s.registers.control 128 h.control,
       placed-told s.registers.page page_bytes h.page_aligned h.page_inside,
       pending-told s.registers.verify_pending h.pending,
-    ) (by (ltb s.registers.erase 64))
-  where
-    by : (b : Bool) → (b && true && true && leb (raw s.pulse_since) (raw t)) ≡ (b && leb (raw s.pulse_since) (raw t))
-    by true = refl
-    by false = refl
+    )
 
 pending-says : (p : Option PendingSense) → pending_placed p ≡ true → PendingSound p
 pending-says None e = tt
 pending-says (Some p) e = placed-says p.address 4 e
 
--- a valid state with a sound index is sound
-valid-sound : (t : Time) (s : Flash) → valid t s ≡ true → slots_sound s.indices ≡ true → Sound s
-unfolding valid
+-- a state that is valid but for its erase register, with a sound index, is sound
+valid-sound : (t : Time) (s : Flash) → valid_but_erase t s ≡ true → slots_sound s.indices ≡ true → Sound s
+unfolding valid_but_erase
 valid-sound t s e h =
     let r = s.registers in
     let c = control_clear r.control in
-    let b = ltb r.erase 64 in
     let p = placed r.page page_bytes in
     let q = pending_placed r.verify_pending in
-    let l4 = and_parts (c && b && p && q) (leb (raw s.pulse_since) (raw t)) e in
-    let l3 = and_parts (c && b && p) q l4.0 in
-    let l2 = and_parts (c && b) p l3.0 in
-    let l1 = and_parts c b l2.0 in
-    let page = placed-says r.page page_bytes l2.1 in
+    let l3 = and_parts (c && p && q) (leb (raw s.pulse_since) (raw t)) e in
+    let l2 = and_parts (c && p) q l3.0 in
+    let l1 = and_parts c p l2.0 in
+    let page = placed-says r.page page_bytes l1.1 in
     record {
       control = ltb-true r.control 128 l1.0;
       page_aligned = page.0;
       page_inside = page.1;
-      pending = pending-says r.verify_pending l3.1;
+      pending = pending-says r.verify_pending l2.1;
       slots = h;
     }
 
@@ -178,6 +172,10 @@ module _ (v : Contents) (g : GoodContents v) (t : Time) (ok : valid t (flash_in 
   abbrev index : List ℕ
   index = indexed 0 v.1.0 (no_pages pages)
 
+  but_erase : valid_but_erase t (flash_in v) ≡ true
+  unfolding valid
+  but_erase = (and_parts (valid_but_erase t (flash_in v)) (erase_valid (flash_in v)) ok).0
+
   index-good : (slots_sound index ≡ true) × (opened index ≡ length v.1.0) × Fills index_row index
   index-good = good-index v.1.0 g.few g.pages
 
@@ -206,7 +204,7 @@ module _ (v : Contents) (g : GoodContents v) (t : Time) (ok : valid t (flash_in 
           array_long = g.array.long;
           charges_long = length-sets charges 0 (cells_of v.1.0) ∙ l;
         });
-        reads = rw (accepted-encoded (flash_in v) fits (valid-sound t (flash_in v) ok index-good.0));
+        reads = rw (accepted-encoded (flash_in v) fits (valid-sound t (flash_in v) but_erase index-good.0));
         record_bytes = bytes-encoded (flash_in v);
         array_bytes = g.array.small;
         full = λ i h. stored-full v.1.0 charges g.pages g.few l i (rw (index_back, index-good.1) at h);
@@ -244,6 +242,6 @@ snapshots =
         restores m w m',
       );
       erase_refused = λ m m' t w e f h.
-          refusal-back m w m' t e f ∙ rw (valid-told t (decoded m.bytes) (accepted-sound m.bytes (accepts m w)), h);
+          refusal-back m w m' t e f ∙ rw (valid-told t (decoded m.bytes) (accepted-sound m.bytes (accepts m w)), h, and-false (leb (raw (decoded m.bytes).pulse_since) (raw t)));
       same = λ bytes m t b e. accepted-same bytes m t b e;
     }

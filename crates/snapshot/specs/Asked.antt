@@ -21,12 +21,18 @@ abbrev pub pending_placed : Option PendingSense → Bool
 pending_placed None = true
 pending_placed (Some sense) = placed sense.address 4
 
--- Control and erase have no bit that is none; page and pending address are aligned and inside; the last settling is not past the time.
-unfoldable pub valid : Time → Flash → Bool
-valid t s =
+-- Control has no bit that is none; page and pending address are aligned and inside; the last settling is not past the time.
+unfoldable pub valid_but_erase : Time → Flash → Bool
+valid_but_erase t s =
     let r = s.registers in
-    control_clear r.control && ltb r.erase 64 && placed r.page page_bytes && pending_placed r.verify_pending
-    && leb (raw s.pulse_since) (raw t)
+    control_clear r.control && placed r.page page_bytes && pending_placed r.verify_pending && leb (raw s.pulse_since) (raw t)
+
+-- Erase has no bit that is none.
+abbrev pub erase_valid : Flash → Bool
+erase_valid s = ltb s.registers.erase 64
+
+unfoldable pub valid : Time → Flash → Bool
+valid t s = valid_but_erase t s && erase_valid s
 
 -- It skips 6, and in 3 what it tests itself.
 unfoldable pub valid_refusal : List ℕ → Time → ℕ
@@ -57,7 +63,7 @@ first (suc k) n = suc k
 
 -- 9 and 10 by the first offending field in reading order; 11, bytes left over; 12, `validate` says no.
 abbrev pub judged : Time → Read Contents → ℕ
-judged t (Err n) = n
+judged t (Err r) = r.number
 judged t (Ok (v, rest)) = first_given (check 11 (ltb 0 (length rest)) ∷ check 12 (not (valid t (flash_in v))) ∷ [])
 
 unfoldable pub read_refusal : Time → List ℕ → Memory → ℕ
@@ -65,7 +71,7 @@ read_refusal t bytes m = first (first_given (check 2 (misfits m) ∷ check 5 (la
 
 -- Slots not in use keep their numbers.
 abbrev pub restored : Read Contents → Memory → Memory
-restored (Err n) m = m
+restored (Err r) m = m
 restored (Ok (v, rest)) m =
     lent (encoded (flash_in v)) v.0 (sets m.charges 0 (cells_of v.1.0))
 
