@@ -1,25 +1,22 @@
 -- Memory that is refused neither by 2 nor by 3 fits: its lengths, its slots, and a pulse and a pending sense that lie inside the array.
 -- Assumes nothing.
-use mathlib.Core.Path.{◌≡◌, refl, ap, subst, ◌∙◌}
+use mathlib.Core.Path.{◌≡◌, refl}
 use mathlib.Core.Bool.{Bool, true, false, cond, not, ◌||◌, true≢false}
 use Prim.Native.Nat.{ℕ, ◌+◌, ◌≤◌}
 use native.Mathlib.Omega.{arith}
 use lib.Dec.{eqb}
 use lib.ListN.{length}
-use borrow.Author.Tests.{eqb-true}
+use borrow.Author.Tests.{eqb-true, eq-eqb}
 use Rattle.cell.specs.Cell.{array_bytes, array_cells}
 use Rattle.control.specs.declared.PendingSense.{PendingSense}
 use Rattle.std.specs.Prelude.{Option, Some, None}
 use Rattle.settle.specs.Settling.{sense_address}
-use Rattle.flash.specs.declared.Flash.{Flash}
-use Rattle.flash.specs.declared.held.Held.{Held}
-use Rattle.flash.specs.Chip.{Chip, chip, Fit}
-use Rattle.flash.specs.Views.{chip_of}
+use Rattle.flash.specs.Chip.{Fit}
 use Rattle.layout.specs.Layout.{record_length, accepted, decoded}
 use Rattle.layout.specs.Whole.{PendingSound}
 use Rattle.layout.proofs.Back.{decoded-index}
 use Rattle.layout.proofs.Accepted.{accepted-sound}
-use Rattle.lent.specs.Memory.{Memory, chip_in, record_misfits, misfits, sizes_misfit}
+use Rattle.lent.specs.Memory.{Memory, chip_in, misfits, sizes_misfit}
 use Rattle.lent.specs.Looked.{register_refusal, memory_refusal}
 use Rattle.flash.proofs.Inside.{pulse_inside}
 
@@ -55,28 +52,10 @@ fitted m s a =
       sense_inside = sense_inside (decoded m.bytes).registers.verify_pending sound.pending;
     }
 
--- with the lengths, the state of a record that is not refused fits
-pub opens : (m : Memory) (s : Flash) → misfits m ≡ false → register_refusal m.bytes ≡ 0 → s ≡ decoded m.bytes
-    → Fit (chip s m.array m.charges)
-unfolding register_refusal
-opens m s e z d =
-    let sizes = sizes-fit (length m.bytes) (length m.array) (length m.charges) e in
-    rw d (fitted m sizes (by (accepted m.bytes) (record_misfits m.bytes) refl z))
-  where
-    by : (x y : Bool) → accepted m.bytes ≡ x → ◌≡◌ {A = ℕ} (cond y 2 (cond (not x) 3 0)) 0 → accepted m.bytes ≡ true
-    by true y h z = h
-    by false true h z = absurd (omega (arith, z))
-    by false false h z = absurd (omega (arith, z))
-
--- what holds of a flash that was opened in some memory
-pub record Holds (held : Held) (m : Memory) : Type 0 where
-  pub flash_is : held.flash ≡ decoded m.bytes
-  pub fits : Fit (chip held.flash m.array m.charges)
-
-pub holds : (held : Held) (seen m : Memory) → seen ≡ m → chip_of held ≡ chip_in seen → Holds held m
-holds held seen m s e =
-    let f : held.flash ≡ decoded m.bytes = ap (λ (k : Chip). k.flash) e ∙ ap (λ (x : Memory). decoded x.bytes) s in
-    record { flash_is = f; fits = rw f (subst (λ (k : Chip). Fit k) (e ∙ ap chip_in s) held.fit) }
+-- memory of the right lengths is refused as its record is
+pub same-refusal : (m : Memory) → misfits m ≡ false → register_refusal m.bytes ≡ memory_refusal m
+unfolding register_refusal memory_refusal
+same-refusal m e = rw (e, eq-eqb _ _ (sizes-fit _ _ _ e).record_long)
 
 -- memory that a call or look begins on
 pub memory-taken : (m : Memory) → memory_refusal m ≡ 0 → (misfits m ≡ false) × (accepted m.bytes ≡ true)

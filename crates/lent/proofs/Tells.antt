@@ -1,16 +1,11 @@
--- The outcome of a call, from its checks: the first line that is given makes the number and leaves everything, and with none given what
--- the call performs is the outcome. Assumes nothing.
-use mathlib.Core.Path.{◌≡◌, refl, ap, sym, ◌∙◌}
+-- What holds of a call that passes its checks, from 4 on: its address lies in the array, its time is not in the last second, and the words lent
+-- are enough. Assumes nothing.
+use mathlib.Core.Path.{◌≡◌, refl}
 use mathlib.Core.Bool.{Bool, true, false, cond, ◌&&◌}
-use mathlib.Core.List.{List}
-use Prim.Native.Nat.{ℕ, zero, suc, ◌-◌, ◌^◌, ◌≤◌, ◌<◌}
+use Prim.Native.Nat.{ℕ, suc, ◌-◌, ◌^◌, ◌≤◌, ◌<◌}
 use native.Mathlib.Omega.{arith}
 use lib.Dec.{leb, ltb, lit<}
-use lib.ListN.{length}
 use borrow.Author.Tests.{leb-false, lt-ltb}
-use Rattle.refusal.specs.declared.Refusal.{Refusal}
-use Rattle.refusal.specs.Refusal.{number}
-use Rattle.refusal.proofs.Outcomes.{number-some}
 use Rattle.time.specs.declared.Time.{Time}
 use Rattle.time.specs.Raw.{BeforeLastSecond}
 use Rattle.registers.specs.declared.Call.{Call}
@@ -19,17 +14,14 @@ use Rattle.registers.specs.Pulses.{pulse}
 use Rattle.registers.specs.Calls.{settles}
 use Rattle.flash.specs.declared.Flash.{Flash}
 use Rattle.settle.specs.Settling.{range_bytes}
-use Rattle.flash.specs.Chip.{chip, placed, answer_limit, Performed}
-use Rattle.layout.specs.Layout.{encoded, decoded}
+use Rattle.flash.specs.Chip.{placed, answer_limit}
 use Rattle.lent.specs.declared.Request.{Request}
 use Rattle.lent.specs.declared.Request.TheVariants.{WriteRegister, Write8, Read8, Read16, Protect, Reset, PowerOff, Environment}
-use Rattle.lent.proofs.Lines.{given-first, given-after}
-use Rattle.lent.specs.Looked.{memory_checks, memory_refusal}
-use Rattle.lent.specs.Memory.{Memory, chip_in, memory_of, last_second, too_early, too_few_words}
-use Rattle.lent.specs.Asked.{call_of, misplaced, call_checks, call_refusal, refusal, outcome, outcome_by, Told}
+use Rattle.lent.specs.Memory.{last_second, too_early, too_few_words}
+use Rattle.lent.specs.Asked.{call_of, misplaced, call_refusal}
 
 -- no answer is a byte
-limit-above : (c : Call) → 0 < answer_limit c
+pub limit-above : (c : Call) → 0 < answer_limit c
 limit-above (call.WriteRegister a v) = lit< tt
 limit-above (call.Write8 a v) = lit< tt
 limit-above (call.Read8 a) = lit< tt
@@ -71,47 +63,3 @@ passes q now words s e =
     by false false true d x y z h = absurd (omega (arith, h))
     by false true c d x y z h = absurd (omega (arith, h))
     by true b c d x y z h = absurd (omega (arith, h))
-
--- what a call tells of its outcome and its value, and that no answer is past the call's limit
-abbrev Tells : Request → Time → List ℕ → Memory → ℕ → ℕ → ℕ → Memory → List ℕ → Type 0
-Tells q now lent m number value count left events =
-    let o = outcome q now lent m in
-    Told o number count left events × (value ≡ o.value) × (value < answer_limit (call_of q))
-
-module _ (q : Request) (now : Time) (lent : List ℕ) (m : Memory) where
-  refused : (n : ℕ) → refusal q now (length lent) m ≡ n → 1 ≤ n → Tells q now lent m n 0 0 m lent
-  unfolding outcome outcome_by
-  refused zero e h = absurd (omega arith)
-  refused (suc n) e h =
-      (record { number_is = rw e; count_is = rw e; memory_is = rw e; events_are = rw e }, rw e, limit-above (call_of q))
-
-  -- by the checks of memory
-  pub told-first : (r : Refusal) → number r ≡ memory_refusal m → Tells q now lent m (number r) 0 0 m lent
-  unfolding refusal memory_refusal
-  told-first r e =
-      refused (number r) (sym (given-first (memory_checks m) (call_checks q now (length lent) (decoded m.bytes)) _ e (λ z. omega (arith, number-some r)))) (number-some r)
-
-  module _ (z : memory_refusal m ≡ 0) where
-    later : refusal q now (length lent) m ≡ call_refusal q now (length lent) (decoded m.bytes)
-    unfolding refusal memory_refusal call_refusal
-    later = given-after (memory_checks m) (call_checks q now (length lent) (decoded m.bytes)) (omega arith, (omega arith, tt)) z
-
-    -- by those of the call
-    pub told-later : (r : Refusal) → number r ≡ call_refusal q now (length lent) (decoded m.bytes) → Tells q now lent m (number r) 0 0 m lent
-    told-later r g = refused (number r) (later ∙ sym g) (number-some r)
-
-    pub told-done : 0 ≡ call_refusal q now (length lent) (decoded m.bytes) → {flash : Flash} {bytes array charges events : List ℕ} {value count : ℕ}
-        → Performed (call_of q) now (chip_in m) lent (chip flash array charges) events value count → bytes ≡ encoded flash
-        → Tells q now lent m 0 value count (record { bytes = bytes; array = array; charges = charges }) events
-    unfolding outcome outcome_by
-    told-done g p b =
-        let e = later ∙ sym g in (
-          record {
-            number_is = rw e;
-            count_is = rw e p.count_is;
-            memory_is = rw (e, b) (ap memory_of p.chip_is);
-            events_are = rw e p.events_are;
-          },
-          rw e p.value_is,
-          p.value_small,
-        )

@@ -3,6 +3,7 @@
 use Rattle.std.specs.Prelude.{ℕ, zero, suc, ◌≡◌, Bool, false, ◌&&◌, List, [], ◌∷◌, length, Result, Ok, Err}
 use Rattle.std.proofs.lemmas.List.Edits.{sets}
 use Rattle.refusal.specs.declared.Refusal.{Refusal}
+use Rattle.refusal.specs.Refusal.{told}
 use Rattle.time.specs.declared.Time.{Time}
 use Rattle.registers.specs.declared.Call.{Call}
 use Rattle.registers.specs.declared.Call.TheVariants as call
@@ -88,6 +89,10 @@ value_of (Err r) = 0
 abbrev pub count_of : Result Answer Refusal → ℕ
 count_of (Ok answer) = answer.count
 count_of (Err r) = 0
+
+-- the outcome that a function's answer and what it leaves make up
+abbrev pub came_to : Result Answer Refusal → List ℕ → Memory → Outcome
+came_to result events m = record { number = told result; value = value_of result; memory = m; events = events; count = count_of result }
 
 -- what of a call's outcome a function gives back and leaves in lent memory
 pub record Told (o : Outcome) (number count : ℕ) (left : Memory) (events : List ℕ) : Type 0 where

@@ -1,4 +1,5 @@
 pub mod Memory
 pub mod Asked
 pub mod Looked
+pub mod Held
 pub mod Views

@@ -1,10 +1,11 @@
 // Lent memory is opened once: its lengths and its record are tested, and the state that the record holds is read.
-ghost use Rattle.std.specs.Prelude.{ℕ, ◌≡◌, ◌<◌, ◌≤◌, false, cond, IfOk, OnOk, length};
+ghost use Rattle.std.specs.Prelude.{ℕ, ◌≡◌, ◌<◌, ◌≤◌, false, cond, IfOk, OnOk};
 ghost use Rattle.refusal.specs.Refusal.{told, Answers};
 ghost use Rattle.cell.specs.Cell.{at};
-ghost use Rattle.layout.specs.Layout.{record_length, decoded};
+ghost use Rattle.layout.specs.Layout.{decoded};
 ghost use Rattle.lent.specs.Memory.{record_misfits, misfits};
 ghost use Rattle.lent.specs.Looked.{register_refusal, memory_refusal, look_refusal, output_refusal};
+ghost use Rattle.lent.specs.Held.{Opened};
 ghost use Rattle.lent.specs.Views.{memory_in, Opens};
 
 use crate::checking::{in_time, sizes_misfit};
@@ -46,17 +47,24 @@ impl<'a> Lent<'a> {
         sizes_misfit(self.record.len(), self.array.len(), self.charges.len())
     }
 
-    // The state in lent memory, which fits it.
+    // The state alone, for whoever changes the memory.
     #[tactic(auto, unfolding(crate::specs::Looked::register_refusal, crate::specs::Looked::memory_refusal))]
-    pub fn opened(self) -> Result<Held<'a>, Refusal>
-        ensures told { Opens (memory_refusal (memory_in self.entry)) (memory_in self.entry) result }
-        ensures long { OnOk result (length self.entry.«record».now ≡ record_length) }
-        ensures bytes { OnOk result ((place : ℕ) → at self.entry.«record».now place < 256) }
+    pub fn opened_state(self) -> Result<Flash, Refusal>
+        ensures told { told result ≡ memory_refusal (memory_in self.entry) }
+        ensures opened { IfOk result (λ flash. Opened (memory_in self.entry) flash) }
     {
         if self.misfits() {
             return Err(Refusal::Memory);
         }
-        let flash = opened_record(self.record)?;
+        opened_record(self.record)
+    }
+
+    // The state with the memory, which it fits.
+    pub fn opened(self) -> Result<Held<'a>, Refusal>
+        ensures told { Opens (memory_refusal (memory_in self.entry)) (memory_in self.entry) result }
+        ensures opened { IfOk result (λ held. Opened (memory_in self.entry) held.flash) }
+    {
+        let flash = self.opened_state()?;
         Ok(Held {
             flash,
             array: self.array,

@@ -142,10 +142,10 @@ told_is t v =
     λ i. record { number = sym t.number_is i; value = sym v i; memory = sym t.memory_is i; events = sym t.events_are i; count = sym t.count_is i }
 
 pub refused-first : (end from : ℕ) (calls lent : List ℕ) (m : Memory) → from < end → (n : ℕ) → 1 ≤ n
-    → Told (asked (call_at calls from lent) m) n 0 m lent → 0 ≡ (asked (call_at calls from lent) m).value
+    → record { number = n; value = 0; memory = m; events = lent; count = 0 } ≡ asked (call_at calls from lent) m
     → Replays from (asks_after (idle lent m) (end - from) from calls) lent m (from + 1) n 0 0 m lent
-refused-first end from calls lent m h zero f t v = absurd (omega arith)
-refused-first end from calls lent m h (suc n) f t v =
-    let o = told_is t v in
+refused-first end from calls lent m h zero f e = absurd (omega arith)
+refused-first end from calls lent m h (suc n) f e =
+    let o = sym e in
     let s = ended-stop end from calls (idle lent m) h (rw (o, eqb-suc-zero n)) in
     replays end from calls lent m (rw (s, o, add-one from))

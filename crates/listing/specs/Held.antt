@@ -1,33 +1,13 @@
--- The state that a replay holds by value: what is known of it between two calls, and what a part of a replay leaves to the rest.
+-- What a part of a replay, on a chip that is held by value, leaves to the rest.
 -- Assumes nothing.
 use Rattle.std.specs.Prelude.{ℕ, ◌+◌, ◌-◌, ◌≤◌, ◌≡◌, List, length}
-use Rattle.refusal.specs.Refusal.{told}
-use Rattle.time.specs.declared.Time.{Time}
-use Rattle.cell.specs.Cell.{array_bytes, array_cells}
 use Rattle.flash.specs.declared.Flash.{Flash}
 use Rattle.flash.specs.Chip.{Chip, chip}
-use Rattle.layout.specs.Whole.{Fits, Sound}
-use Rattle.lent.specs.declared.Request.{Request}
 use Rattle.lent.specs.Memory.{memory_of}
-use Rattle.lent.specs.Asked.{Outcome, outcome, value_of, count_of}
+use Rattle.lent.specs.Asked.{Outcome}
+use Rattle.lent.specs.Held.{Ready, replied, written}
 use Rattle.listing.specs.declared.Replayed.{Replayed}
 use Rattle.listing.specs.Replaying.{idle, asks_after, last_of}
-
--- a chip whose record is accepted and reads back, in memory of the right lengths
-pub record Ready (k : Chip) : Type 0 where
-  pub fits : Fits k.flash
-  pub sound : Sound k.flash
-  pub array_long : length k.array ≡ array_bytes
-  pub charges_long : length k.charges ≡ array_cells
-
--- an outcome that leaves a chip's memory
-abbrev pub leaves : Chip → List ℕ → ℕ → ℕ → ℕ → Outcome
-leaves k events number value count = record { number = number; value = value; memory = memory_of k; events = events; count = count }
-
--- a call on chip k left chip k'
-pub record Called (q : Request) (t : Time) (lent : List ℕ) (k k' : Chip) (events : List ℕ) (number value count : ℕ) : Type 0 where
-  pub outcome_is : outcome q t lent (memory_of k) ≡ leaves k' events number value count
-  pub ready : Ready k'
 
 -- where a replay comes to, and with which outcome
 pub record Ended : Type 0 where
@@ -36,7 +16,7 @@ pub record Ended : Type 0 where
 
 -- by what a replay gives back and leaves
 abbrev pub came : Replayed → Chip → List ℕ → Ended
-came r k events = record { done = r.done; last = leaves k events (told r.last) (value_of r.last) (count_of r.last) }
+came r k events = record { done = r.done; last = written (replied r.last events k) }
 
 abbrev pub ended : ℕ → ℕ → List ℕ → Outcome → Ended
 ended end i calls o = record { done = i + length (asks_after o (end - i) i calls); last = last_of (asks_after o (end - i) i calls) o }

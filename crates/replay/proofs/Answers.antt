@@ -8,12 +8,16 @@ use native.Mathlib.Omega.{arith}
 use borrow.Author.Tests.{ltb-true, ltb-false}
 use Rattle.std.specs.Prelude.{min}
 use lib.Dec.{ltb}
+use Rattle.refusal.specs.Refusal.{told}
 use Rattle.flash.specs.declared.Flash.{Flash}
 use Rattle.flash.specs.Chip.{chip}
-use Rattle.layout.specs.Layout.{encoded, decoded}
-use Rattle.lent.specs.Memory.{Memory, chip_in, memory_of}
+use Rattle.layout.specs.Layout.{encoded}
+use Rattle.lent.specs.Memory.{Memory, memory_of, lent as made}
+use Rattle.lent.specs.Asked.{value_of, count_of}
+use Rattle.lent.specs.Held.{Opened}
+use Rattle.listing.specs.declared.Replayed.{Replayed}
 use Rattle.listing.specs.Replaying.{end_in, idle, asks_after, Replays}
-use Rattle.listing.specs.Held.{leaves, ended}
+use Rattle.listing.specs.Held.{came, ended}
 use Rattle.listing.proofs.Going.{ended-end, replays}
 
 -- the end of the list as the code has it
@@ -28,12 +32,9 @@ module _ (end from : ℕ) (calls lent : List ℕ) (m : Memory) where
   pub nothing-done : end ≤ from → Replays from (asks_after (idle lent m) (end - from) from calls) lent m from 0 0 0 m lent
   nothing-done h = replays end from calls lent m (ended-end end from calls (idle lent m) h)
 
-  pub run-done : (flash after : Flash) → flash ≡ decoded m.bytes → m ≡ memory_of (chip_in m) → {bytes array charges events : List ℕ} {done number value count : ℕ}
-      → ended end from calls (idle lent (memory_of (chip flash m.array m.charges))) ≡ record { done = done; last = leaves (chip after array charges) events number value count }
-      → bytes ≡ encoded after
-      → Replays from (asks_after (idle lent m) (end - from) from calls) lent m done number value count (record { bytes = bytes; array = array; charges = charges }) events
-  run-done flash after e w {bytes} {array} {charges} {events} {done} {number} {value} {count} r b =
-      let start : m ≡ memory_of (chip flash m.array m.charges) = w ∙ ap (λ (s : Flash). memory_of (chip s m.array m.charges)) (sym e) in
-      replays end from calls lent m
-      (ap (λ (x : Memory). ended end from calls (idle lent x)) start ∙ r
-      ∙ ap (λ (bs : List ℕ). record { done = done; last = record { number = number; value = value; memory = record { bytes = bs; array = array; charges = charges }; events = events; count = count } }) (sym b))
+  pub run-done : (flash after : Flash) → Opened m flash → (r : Replayed) {bytes array charges events : List ℕ}
+      → ended end from calls (idle lent (memory_of (chip flash m.array m.charges))) ≡ came r (chip after array charges) events → bytes ≡ encoded after
+      → Replays from (asks_after (idle lent m) (end - from) from calls) lent m r.done (told r.last) (value_of r.last) (count_of r.last) (made bytes array charges) events
+  run-done flash after o r e b =
+      let start : m ≡ memory_of (chip flash m.array m.charges) = o.memory_is ∙ ap memory_of (sym o.chip_is) in
+      replays end from calls lent m (ap (λ (x : Memory). ended end from calls (idle lent x)) start ∙ rw b e)

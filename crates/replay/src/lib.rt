@@ -30,9 +30,8 @@ pub fn replay(
             last: Ok(Answer::default()),
         };
     }
-    match memory.seen().opened() {
-        Ok(held) => {
-            let mut flash = held.flash;
+    match memory.seen().opened_state() {
+        Ok(mut flash) => {
             let ran = run(
                 &mut flash,
                 memory.array,

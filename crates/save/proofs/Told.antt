@@ -1,5 +1,5 @@
 -- What writing a snapshot tells, from its checks: the first line that is given makes the number; and what the output is where none is. Assumes nothing.
-use mathlib.Core.Path.{◌≡◌, refl, sym, ◌∙◌}
+use mathlib.Core.Path.{◌≡◌, ap, sym, ◌∙◌}
 use mathlib.Core.Logic.{◌≢◌}
 use mathlib.Core.Bool.{cond}
 use mathlib.Core.List.{List, [], ◌∷◌, ◌++◌}
@@ -9,16 +9,15 @@ use lib.Dec.{ltb}
 use borrow.Author.Tests.{lt-ltb, le-ltb}
 use lib.ListN.{length, drop}
 use lib.Seq.{sets, sets-eq}
-use Rattle.cell.specs.Cell.{at}
 use Rattle.settle.specs.Pages.{opened}
 use Rattle.settle.proofs.Slots.{opened-le}
 use Rattle.flash.specs.declared.held.Held.{Held}
-use Rattle.flash.specs.Views.{chip_of}
+use Rattle.flash.specs.Chip.{Chip}
 use Rattle.layout.specs.Layout.{decoded}
-use Rattle.layout.proofs.Back.{decoded-index, decoded-fits}
+use Rattle.layout.proofs.Back.{decoded-index}
 use Rattle.lent.specs.Memory.{Memory, chip_in, check}
+use Rattle.lent.specs.Held.{Opened}
 use Rattle.lent.specs.Looked.{memory_checks, memory_refusal}
-use Rattle.lent.proofs.Fitted.{holds}
 use Rattle.lent.proofs.Lines.{given-first, given-after}
 use Rattle.snapshot.specs.Snapshot.{snapshot_of, snapshot_length}
 use Rattle.snapshot.specs.Asked.{write_refusal}
@@ -30,13 +29,14 @@ put_front new out vs n e d h = let f : n - 0 ≡ 0 + length vs = omega arith in 
 
 module _ (m : Memory) where
   -- the length, from the state that the record holds
-  pub length-written : (held : Held) (count n : ℕ) → ((k : ℕ) → at m.bytes k < 256) → chip_of held ≡ chip_in m → count ≡ opened held.flash.indices
+  pub length-written : (held : Held) (count n : ℕ) → Opened m held.flash → count ≡ opened held.flash.indices
       → n ≡ snapshot_length count held.flash.registers.verify_pending → n ≡ length (snapshot_of (chip_in m))
-  length-written held count n b e c l =
-      let h = holds held m m refl e in
+  length-written held count n o c l =
+      let h = o.ready in
+      let s : held.flash ≡ decoded m.bytes = ap (λ (k : Chip). k.flash) o.chip_is in
       let few = opened-le (decoded m.bytes).indices in
       let long = decoded-index m.bytes in
-      rw (l, c, h.flash_is) (sym (length-snapshot (chip_in m) h.fits.array_long h.fits.charges_long (omega arith) (decoded-fits m.bytes b)))
+      rw (l, c, s) (sym (length-snapshot (chip_in m) h.array_long h.charges_long (omega arith) h.fits))
 
   module _ (room : ℕ) where
     -- a refusal of the memory comes first

@@ -8,7 +8,7 @@ use native.Mathlib.Omega.{arith}
 use lib.ListN.{length}
 use Rattle.refusal.specs.Refusal.{told}
 use Rattle.lent.specs.Memory.{Memory}
-use Rattle.lent.specs.Asked.{Outcome, value_of, count_of}
+use Rattle.lent.specs.Asked.{Outcome, value_of, count_of, came_to}
 use Rattle.listing.specs.Replaying.{idle, end_in, asks, last_of, Replays}
 use Rattle.listing.proofs.Claimed.{replay3}
 use Rattle.listing.proofs.Going.{told_is}
@@ -19,7 +19,7 @@ use Rattle.course.specs.declared.Manner.{Manner}
 use Rattle.course.specs.declared.Noted.{Noted}
 use Rattle.course.specs.Desk.{desk, called_all, numbered_from}
 use Rattle.serving.specs.Noting.{noted_at_once}
-use Rattle.serving.specs.Serving.{came_to, Notes, Serves}
+use Rattle.serving.specs.Serving.{Notes, Serves}
 use Rattle.serving.proofs.Quiet.{noted-once}
 
 module _ (from to : ℕ) (calls lent : List ℕ) (m : Memory) (more : from < to) (long : 3 * to ≤ length calls)

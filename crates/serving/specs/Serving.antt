@@ -2,19 +2,14 @@
 -- Assumes nothing.
 use Rattle.std.specs.Prelude.{ℕ, ◌-◌, ◌≤◌, ◌<◌, List, Result}
 use Rattle.refusal.specs.declared.Refusal.{Refusal}
-use Rattle.refusal.specs.Refusal.{told}
 use Rattle.flash.specs.declared.Answer.{Answer}
 use Rattle.lent.specs.Memory.{Memory}
-use Rattle.lent.specs.Asked.{Outcome, value_of, count_of}
+use Rattle.lent.specs.Asked.{Outcome, came_to}
 use Rattle.course.specs.declared.Course.{Course}
 use Rattle.course.specs.declared.Manner.{Manner}
 use Rattle.course.specs.declared.Noted.{Noted}
 use Rattle.course.specs.Desk.{Desk, desk, Leaves, called_all, numbered_from}
 use Rattle.serving.specs.declared.Served.{Served}
-
--- the outcome of the last call of a replay, by what it came to, memory and event words
-abbrev pub came_to : Result Answer Refusal → List ℕ → Memory → Outcome
-came_to last events m = record { number = told last; value = value_of last; memory = m; events = events; count = count_of last }
 
 -- What a call came to is noted in some way, whatever the memory is.
 abbrev pub Notes : (Outcome → Desk → Desk) → Course → Result Answer Refusal → List ℕ → List ℕ → List ℕ → Noted → Type 0

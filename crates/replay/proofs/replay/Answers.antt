@@ -1,12 +1,9 @@
 -- `replay::replay` meets its contract: there is nothing to do, or the first call is refused by what memory is, or the run is on memory
--- that is accepted, which its state is written as. Assumes nothing.
-use mathlib.Core.Path.{ap, sym, ◌∙◌}
+-- that is opened. Assumes nothing.
+use mathlib.Core.Path.{sym, ◌∙◌}
 use native.Mathlib.Omega.{arith}
 use Rattle.refusal.proofs.Outcomes.{number-some}
-use Rattle.lent.specs.Memory.{Memory}
-use Rattle.lent.proofs.Fitted.{holds}
-use Rattle.lent.proofs.Tells.{told-first}
-use Rattle.listing.proofs.Holding.{ready-start, memory_start}
+use Rattle.lent.proofs.Holding.{opened-long, asked-first}
 use Rattle.listing.proofs.Going.{refused-first}
 use Rattle.replay.proofs.Answers.{end_is, nothing-done, run-done}
 use Rattle.replay.proofs.replay.Goals as goal
@@ -17,20 +14,18 @@ returns-then-end-from-clause-done c =
 
 pub run-ran-requires : goal.run-ran-requires
 run-ran-requires c =
-    let o = c.in-Ok.ensures in
-    let f = (holds c.in-Ok.held _ _ c.seen.ensures o.told.1).flash_is in
-    let b = rw (ap (λ (m : Memory). m.bytes) c.seen.ensures) at o.bytes in
-    (rw f (ready-start _ (rw c.seen.ensures at o.told.0) b), omega arith)
+    let o = rw c.seen.ensures at c.in-Ok.ensures.opened in
+    (rw (sym o.chip_is) at o.ready, omega arith)
+
+pub write-requires : goal.write-requires
+write-requires c = opened-long _ _ (rw c.seen.ensures at c.in-Ok.ensures.opened)
 
 pub returns-in-Ok-clause-done : goal.returns-in-Ok-clause-done
 returns-in-Ok-clause-done c =
-    let o = c.in-Ok.ensures in
-    let f = (holds c.in-Ok.held _ _ c.seen.ensures o.told.1).flash_is in
-    let b = rw (ap (λ (m : Memory). m.bytes) c.seen.ensures) at o.bytes in
-    let m = memory_start _ (rw c.seen.ensures at o.told.0) b in
-    rw (end_is _ _ ∙ sym c.min-end.ensures) (run-done _ _ _ _ _ _ _ f m c.run-ran.ensures c.write.ensures)
+    let o = rw c.seen.ensures at c.in-Ok.ensures.opened in
+    rw (end_is _ _ ∙ sym c.min-end.ensures) (run-done _ _ _ _ _ _ _ o _ c.run-ran.ensures c.write.ensures)
 
 pub returns-in-Err-clause-done : goal.returns-in-Err-clause-done
 returns-in-Err-clause-done c =
-    let t = told-first _ _ _ _ _ (rw c.seen.ensures at c.in-Err.ensures.told) in
-    rw (end_is _ _ ∙ sym c.min-end.ensures) (refused-first _ _ _ _ _ (omega arith) _ (number-some _) t.0 t.1)
+    let t = asked-first _ _ _ _ _ (rw c.seen.ensures at c.in-Err.ensures.told) in
+    rw (end_is _ _ ∙ sym c.min-end.ensures) (refused-first _ _ _ _ _ (omega arith) _ (number-some _) t)

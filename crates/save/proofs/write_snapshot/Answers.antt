@@ -17,7 +17,7 @@ returns-then-out-length-clause-answer c =
     let m = memory_in x.lent in
     let o = c.in_ok-held.ensures in
     let n = c.snapshot_length-length.result in
-    let e = length-written m c.in_ok-held.held c.opened-count.result n o.bytes o.told.1 c.opened-count.ensures.0 c.snapshot_length-length.ensures in
+    let e = length-written m c.in_ok-held.held c.opened-count.result n o.opened c.opened-count.ensures.0 c.snapshot_length-length.ensures in
     told-8 m (length x.out.now) o.told.0 n e c.if-out-length.true
 
 pub returns : goal.returns
@@ -26,6 +26,6 @@ returns c =
     let m = memory_in x.lent in
     let o = c.in_ok-held.ensures in
     let n = c.snapshot_length-length.result in
-    let e = length-written m c.in_ok-held.held c.opened-count.result n o.bytes o.told.1 c.opened-count.ensures.0 c.snapshot_length-length.ensures in
+    let e = length-written m c.in_ok-held.held c.opened-count.result n o.opened c.opened-count.ensures.0 c.snapshot_length-length.ensures in
     let z = told-none m (length x.out.now) o.told.0 n e c.if-out-length.false in
     record { answer = (z, e); out = put_front c.fill.new.out x.out.now _ n (rw o.told.1 at c.fill.ensures) e (omega arith) }
