@@ -10,7 +10,7 @@ use refusal::{told, told_into};
 use restore::read_snapshot;
 use save::write_snapshot;
 use time::Time;
-use validity::see_valid;
+use restore::validity::see_valid;
 
 // Whether a record's state is valid at a time.
 #[tactic(auto, using(crate::proofs::Answered::placed), unfolding(snapshot::specs::Asked::valid_answer))]

@@ -2,6 +2,7 @@
 #![tactic(auto)]
 
 pub mod loading;
+pub mod validity;
 
 ghost use Rattle.std.specs.Prelude.{◌≡◌, false};
 ghost use Rattle.lent.specs.Memory.{misfits};
@@ -18,7 +19,7 @@ use refusal::Refusal;
 use scan::scan;
 use scan::scanned::Scanned;
 use time::Time;
-use validity::valid;
+use crate::validity::valid;
 
 // A snapshot whose fields are all good is taken, unless bytes are left over or its state is not valid.
 fn take(snapshot: &Scanned, memory: &mut LentMut, time: Time) -> Result<(), Refusal>

@@ -16,8 +16,8 @@ use std::rt::Files;
 use telling::reading::opened;
 use telling::{Outlets, Told};
 
-pub mod desk;
 mod complaints;
+pub mod desk;
 mod pieces;
 mod run;
 mod stepping;

@@ -7,9 +7,9 @@ ghost use Rattle.words.specs.Words.{blank, in_word, word_at};
 
 pub use crate::line_word::LineWord;
 
-pub mod reason;
-pub mod names;
 mod line_word;
+pub mod names;
+pub mod reason;
 pub mod spelling;
 
 // A stretch of a line, from its first byte up to, not including, `to`. An empty one is no word, and stands where a word would begin.

@@ -1,6 +1,4 @@
 // Whether a state is one that a snapshot may hold at a time.
-#![tactic(auto)]
-
 ghost use Rattle.std.specs.Prelude.{◌≡◌};
 ghost use Rattle.layout.specs.Layout.{decoded};
 ghost use Rattle.refusal.specs.Refusal.{Answers};
