@@ -1,16 +1,18 @@
--- From the text to demand 3: line after line, the calls done are the first of those asked for, and the flash is as they left it.
--- Assumes nothing.
+-- From the text to demand 3: line after line, the calls done are the first of those asked for, and the flash is as they left it. So what is
+-- claimed of every list of calls from some memory on is so of every text. Assumes nothing.
 use Prim.Native.Nat.{ℕ}
 use mathlib.Core.Bool.{Bool, true, false, cond}
 use mathlib.Core.List.{List, [], ◌∷◌, ◌++◌, map, append_assoc, append-nil, map-append}
-use mathlib.Core.Path.{◌≡◌, refl, sym, ap, ◌∙◌}
+use mathlib.Core.Path.{◌≡◌, refl, sym, ap, subst, ◌∙◌}
 use lib.Dec.{eqb}
 use lib.ListN.{length}
 use Rattle.refusal.specs.Refusal.{numbered}
 use Rattle.lent.specs.Memory.{Memory}
 use Rattle.lent.specs.Asked.{outcome}
-use Rattle.ledger.specs.Lists.{Asked, Typed, new_memory, memory_after}
-use Rattle.ledger.proofs.Demand.{demand3}
+use Rattle.ledger.specs.Lists.{Asked, Typed, memory_after}
+use Rattle.ledger.specs.Claim.{Demand}
+use Rattle.ledger.proofs.Demand.{onward, demand3}
+use Rattle.ledger.proofs.Reached.{read-onward}
 use Rattle.listing.proofs.Claimed.{replay3}
 use Rattle.grammar.specs.Grammar.{line_of}
 use Rattle.grammar.specs.declared.Line.{Line}
@@ -25,8 +27,8 @@ use Rattle.verdict.specs.Pulses.{raised}
 use Rattle.course.specs.declared.Complaint.TheVariants as complaint
 use Rattle.course.specs.declared.Manner.{Manner}
 use Rattle.course.specs.Desk.{Desk, made, refused, noted, called, looked_refusal, looked_said, seen, left_out, looked, line_done}
-use Rattle.course.specs.Reader.{Reader, too_long, newline, parsed, line_ended, byte_kept, byte_read, all_read, text_read, calls_read, text_calls}
-use Rattle.course.specs.Demand.{Done, begun, TextDemand3}
+use Rattle.course.specs.Reader.{Reader, starts_with, too_long, newline, parsed, line_ended, byte_kept, byte_read, all_read, text_read, calls_read, text_calls}
+use Rattle.course.specs.Demand.{Done, OfTexts, DemandFrom, ReadInto, TextOnward, begun, TextDemand3}
 
 -- ---- one line
 
@@ -160,13 +162,28 @@ first-typed (q ∷ qs) left h = (h.0, h.1, first-typed qs left h.2)
 
 -- ---- the claim
 
-pub text-demand : TextDemand3
+-- what is so of every list of calls from a desk's memory on is so of every text that is run there
+of-texts : (claim : List Asked → Type 0) (d : Desk) → ((qs : List Asked) → Typed qs → claim qs) → OfTexts claim d
 unfolding memory_after
+of-texts claim d h w text =
+    let r = starts_with d in
+    let run = text-done d.memory w text r (record { done = []; left = []; calls_are = refl; all_done = λ live. refl; memory_is = refl }) in
+    let typed : Typed run.done = first-typed run.done run.left (rw run.calls_are (text-typed w text r)) in
+    record { run = run; typed = typed; claimed = h run.done typed }
+
+read-demand : (m : Memory) → ReadInto m → (qs : List Asked) → Typed qs → DemandFrom m qs
+read-demand m r qs t =
+    let f = read-onward r.bytes r.before r.time r.are_bytes r.accepted in
+    subst (λ (x : Memory). DemandFrom x qs) (sym r.memory_is) (f.booked qs t, λ n. f.shown n qs t)
+
+pub text-onward : TextOnward
+text-onward = record {
+  good = λ d g. of-texts (DemandFrom d.memory) d (λ qs t. (onward.booked d.memory g qs t, λ n. onward.shown d.memory g n qs t));
+  restored = λ d r. of-texts (DemandFrom d.memory) d (read-demand d.memory r);
+}
+
+pub text-demand : TextDemand3
 text-demand = record {
-  of_every_text = λ firmware charges long small store w text events t.
-      let r = begun firmware charges events t in
-      let m = new_memory firmware charges in
-      let run = text-done m w text r (record { done = []; left = []; calls_are = refl; all_done = λ live. refl; memory_is = refl }) in
-      let typed : Typed run.done = first-typed run.done run.left (rw run.calls_are (text-typed w text r)) in
-      record { run = run; typed = typed; demand = demand3.of_every_list firmware charges long small store run.done typed };
+  of_every_text = λ firmware charges long small store events t.
+      of-texts (Demand firmware charges) (begun firmware charges events t) (demand3.of_every_list firmware charges long small store);
 }

@@ -188,7 +188,7 @@ module _ (firmware charges : List ℕ) (h : length firmware ≡ 49152) (small : 
   pub new-good : Good (new_memory firmware charges)
   new-good = order-good new_chip order
 
-  new-matches : Matches (new_memory firmware charges)
+  pub new-matches : Matches (new_memory firmware charges)
   unfolding fresh_flash
   new-matches = subst (λ (k : Chip). Senses (cells k)) (sym (order-back new_chip order)) (fresh-senses firmware charges small)
 

@@ -24,16 +24,17 @@ use Rattle.snapshot.specs.Snapshot.{place_of}
 use Rattle.snapshot.specs.Asked.{memory_read}
 use Rattle.snapshot.specs.Claim.{in_use, Whole, Alike}
 use Rattle.snapshot.proofs.Pigeon.{slot-has-page}
+use Rattle.snapshot.proofs.SameCells.{same-charges}
 use Rattle.snapshot.proofs.Alike.{alike-answers}
 use Rattle.snapshot.proofs.Claimed.{snapshots}
 use Rattle.ledger.specs.Lists.{Asked, asked, Typed, new_memory, memory_after, events_of, heard_of}
-use Rattle.ledger.specs.Claim.{Good}
+use Rattle.ledger.specs.Claim.{Good, Matches}
 use Rattle.ledger.specs.Reached.{Reached, ReachedReadsBack, ReadOnward}
 use Rattle.ledger.proofs.Kept.{fresh-fits}
 use Rattle.ledger.proofs.Order.{order-in, full-lasting}
 use Rattle.ledger.proofs.Accepted.{left_at}
 use Rattle.ledger.proofs.Carried.{followed}
-use Rattle.ledger.proofs.Demand.{onward, new-good}
+use Rattle.ledger.proofs.Demand.{onward, new-good, new-matches}
 
 -- ---- calls keep memory whole
 
@@ -113,6 +114,21 @@ read_alike m m' w e =
           ∙ get_or-take (in_use m) m.charges i 0 h;
     }
 
+-- the same charges are sensed over alike memories
+alike-matches : (m m' : Memory) → Good m → Alike m m' → Matches m → Matches m'
+alike-matches m m' g a n =
+    subst Matches (λ i. lent (sym a.record_is i) (sym a.array_is i) m'.charges) (λ b l. rw same (n b l))
+  where
+    same : cell_at (cells (chip_in (lent m.bytes m.array m'.charges))) ≡ cell_at (cells (chip_in m))
+    same = same-charges (good-slots m g) (record { index_is = refl; array_is = refl; long = a.long; used = a.used })
+
+reached-matches : (m : Memory) → Reached m → Matches m
+reached-matches m r =
+    let new = new_memory r.firmware r.charges in
+    let g = new-good r.firmware r.charges r.firmware_long r.firmware_bytes r.charges_long in
+    let n = new-matches r.firmware r.charges r.firmware_long r.firmware_bytes r.charges_long in
+    subst Matches (sym r.left) (onward.matches new g n r.calls r.typed)
+
 -- ---- the calls that follow
 
 after : (qs : List Asked) (m m' : Memory) → Alike m m'
@@ -137,6 +153,8 @@ reached-reads-back =
           let b = snapshots.back m m' t w e f g h in
           (b.0, subst (Alike m) (sym b.1) (read_alike m m' w e));
       erase_refused = λ m m' t r e f h. snapshots.erase_refused m m' t (reached-whole m r) e f h;
+      matches = reached-matches;
+      still_matches = λ m m' w a n. alike-matches m m' (whole-good m w) a n;
       after = after;
     }
 

@@ -35,6 +35,9 @@ pub record ReachedReadsBack : Type 0 where
   -- with erase 64 or 128 it is refused by 12
   pub erase_refused : (m m' : Memory) (t : Time) → Reached m → misfits m' ≡ false → last_second t ≡ false
       → ltb (decoded m.bytes).registers.erase 64 ≡ false → read_refusal t (snapshot_of (chip_in m)) m' ≡ 12
+  -- its array is what its charges sense, and so is that of memory which its snapshot was read into
+  pub matches : (m : Memory) → Reached m → Matches m
+  pub still_matches : (m m' : Memory) → Whole m → Alike m m' → Matches m → Matches m'
   -- Whatever calls follow, over alike memories they are refused or not alike, give the same events, and leave memories alike.
   pub after : (qs : List Asked) (m m' : Memory) → Alike m m'
       → (heard_of qs m' ≡ heard_of qs m) × (events_of qs m' ≡ events_of qs m) × Alike (memory_after qs m) (memory_after qs m')

@@ -3,13 +3,13 @@
 mod finishing;
 
 use crate::desk::finishing::finish;
+use crate::read_history;
 use cell::{CELLS, FLASH_SIZE};
 use course::memory::{Array, BUFFER, Bench, Buffer, Charges, Events, Record};
 use course::{Manner, begun};
 use layout::{EVENT_WORDS, RECORD_LEN};
 use lent::memory::{Lent, LentMut};
 use options::{Asked, Beginning, Options, options_of};
-use crate::read_history;
 use std::rt::Files;
 use telling::beginning::{begin, last_settling};
 use telling::saying::say_help;
