@@ -14,7 +14,7 @@ settings_of r =
 -- registers with these settings and nothing pending
 abbrev pub with_settings : Settings → Registers → Registers
 with_settings s r =
-    record { control = s.control; error = r.error; erase = s.erase; enabled = s.enabled; power_down_disabled = s.power_down_disabled; latch = r.latch; page = r.page; supply = r.supply; oscillator = r.oscillator; mode = r.mode; «module» = r.«module»; ready = r.ready; swe_ready = s.swe_ready; program_ready = s.program_ready; erase_ready = s.erase_ready; recovery = s.recovery; verify_ready = s.verify_ready; verify_pending = None }
+    record r { control = s.control; erase = s.erase; enabled = s.enabled; power_down_disabled = s.power_down_disabled; swe_ready = s.swe_ready; program_ready = s.program_ready; erase_ready = s.erase_ready; recovery = s.recovery; verify_ready = s.verify_ready; verify_pending = None }
 
 -- settings t are what a rule makes of settings s, whatever the other registers
 abbrev pub Changed : (Registers → Registers) → Settings → Settings → Type 0

@@ -18,8 +18,9 @@ pub fn ask(memory: &mut LentMut, events: &mut [u64], asking: Asking) -> Result<A
     ensures outcome { came_to result events.new (memory_at memory.new) ≡ outcome asking.request asking.time events.old (memory_at memory.old) }
     ensures limit { value_of result < answer_limit (call_of asking.request) }
 {
-    let mut flash = memory.seen().opened_state()?;
-    let answer = attempt(&mut flash, memory.array, memory.charges, events, asking)?;
-    write(memory.record, flash);
+    let flash = memory.seen().opened_state()?;
+    let made = attempt(flash, memory.array, memory.charges, events, asking);
+    let answer = made.answer?;
+    write(memory.record, made.flash);
     Ok(answer)
 }

@@ -12,20 +12,37 @@ use lent::{Answer, Asking};
 use perform::perform;
 use refusal::Refusal;
 
-// The state stays apart from what is lent, as `perform` takes it. A refusal changes nothing.
+// The state as a call leaves it, and its answer. A refused call leaves it as it was.
+#[derive(Clone, Copy)]
+pub struct Attempted {
+    pub flash: Flash,
+    pub answer: Result<Answer, Refusal>,
+}
+
+// The state stays apart from what is lent, and comes and goes by value, as `perform` takes it. Inlined: called, it would be copied once more.
+#[inline(always)]
 pub fn attempt(
-    flash: &mut Flash,
+    flash: Flash,
     array: &mut [u8],
     charges: &mut [u64],
     events: &mut [u64],
     asking: Asking,
-) -> Result<Answer, Refusal>
-    requires { Fit (chip flash.old array.old charges.old) }
-    ensures outcome { replied result events.new (chip flash.new array.new charges.new) ≡ reply asking.request asking.time events.old (chip flash.old array.old charges.old) }
-    ensures limit { value_of result < answer_limit (call_of asking.request) }
+) -> Attempted
+    requires { Fit (chip flash array.old charges.old) }
+    ensures outcome { replied result.answer events.new (chip result.flash array.new charges.new) ≡ reply asking.request asking.time events.old (chip flash array.old charges.old) }
+    ensures limit { value_of result.answer < answer_limit (call_of asking.request) }
 {
-    let now = call_refusal(flash, asking, events.len())?;
-    let done = perform(*flash, array, charges, events, asking.request.into(), now);
-    *flash = done.flash;
-    Ok(done.answer)
+    match call_refusal(&flash, asking, events.len()) {
+        Ok(now) => {
+            let done = perform(flash, array, charges, events, asking.request.into(), now);
+            Attempted {
+                flash: done.flash,
+                answer: Ok(done.answer),
+            }
+        }
+        Err(refusal) => Attempted {
+            flash,
+            answer: Err(refusal),
+        },
+    }
 }

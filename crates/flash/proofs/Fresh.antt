@@ -10,6 +10,7 @@ use Rattle.cell.specs.declared.Sense.TheVariants.{Normal}
 use Rattle.cell.specs.Cell.{at, bit, first_charge}
 use Rattle.cell.proofs.Sensed.{sensed_byte-same, first-sensed}
 use Rattle.settle.specs.Pages.{held, cell_at}
+use Rattle.settle.specs.Views.{cells_of}
 use Rattle.settle.specs.Settling.{normal_byte}
 use Rattle.flash.specs.Chip.{no_pages}
 use Rattle.settle.proofs.Expose.{Ordered, Senses}
@@ -24,13 +25,13 @@ none_open n p = by (dec_lt p n)
     by (no h) = get_or-eq_default (replicate n 0) 0 (rw length-replicate (omega arith))
 
 pub fresh-cell : (firmware charges : List ℕ) (i : ℕ)
-    → cell_at (record { index = no_pages 384; array = firmware; charges = charges }) i ≡ first_charge (bit (at firmware (i / 8)) (i % 8))
+    → cell_at (cells_of (no_pages 384) firmware charges) i ≡ first_charge (bit (at firmware (i / 8)) (i % 8))
 unfolding cell_at held
 fresh-cell firmware charges i = rw (none_open 384 (i / 1024))
 
 module _ (firmware charges : List ℕ) (small : (a : ℕ) → at firmware a < 256) where
   pub fresh-ordered : length firmware ≡ 49152 → length charges ≡ 393216
-      → Ordered (record { index = no_pages 384; array = firmware; charges = charges })
+      → Ordered (cells_of (no_pages 384) firmware charges)
   unfolding no_pages
   fresh-ordered h k =
       record {
@@ -47,7 +48,7 @@ module _ (firmware charges : List ℕ) (small : (a : ℕ) → at firmware a < 25
       shut : (p j : ℕ) → at (no_pages 384) p ≡ suc j → ⊥
       shut p j e = omega (arith, none_open 384 p)
 
-  pub fresh-senses : Senses (record { index = no_pages 384; array = firmware; charges = charges })
+  pub fresh-senses : Senses (cells_of (no_pages 384) firmware charges)
   unfolding normal_byte
   fresh-senses a l =
       sym (first-sensed a (at firmware a) (small a))

@@ -16,6 +16,7 @@ use Rattle.registers.specs.declared.Registers.{Registers}
 use Rattle.registers.specs.declared.Call.{Call}
 use Rattle.registers.specs.Pulses.{pulse}
 use Rattle.registers.specs.Calls.{settles, next}
+use Rattle.settle.specs.Views.{cells_of}
 use Rattle.settle.specs.Settling.{range_bytes, changes, settled_by, ends_of, end_words, sensed_by, Left}
 use Rattle.flash.specs.Chip.{Chip, chip, registers, cells, settled_at, step, step_if, sensed_after, settled_answer, stored_answer, answer_limit, Fit, Performed}
 use Rattle.settle.proofs.Stored.{sets-append}
@@ -49,10 +50,10 @@ module _ (now : Time) (k : Chip) (fit : Fit k) (o : Option Pulse) (open_is : o �
 
   pub performs : (c : Call) → settles c now (registers k) ≡ true → (r : Registers) → r ≡ next c now (registers k)
       → {events' : List ℕ} {count' : ℕ} → events' ≡ sets events count (ends_of c r.control o (pulse r)) → count' ≡ count + length (ends_of c r.control o (pulse r))
-      → {sensed : List ℕ} → sensed ≡ sensed_by (registers k) now (record { index = index; array = array; charges = charges }) k.flash.sensed
+      → {sensed : List ℕ} → sensed ≡ sensed_by (registers k) now (cells_of index array charges) k.flash.sensed
       → {value : ℕ} → value ≡ settled_answer c now o (registers k) sensed → value < answer_limit c
       → {kept : List ℕ} → kept ≡ sensed_after c sensed
-      → Performed c now k lent (chip (record { registers = r; pulse_since = now; sensed = kept; indices = index }) array charges) events' value count'
+      → Performed c now k lent (chip (record (k.flash) { registers = r; pulse_since = now; sensed = kept; indices = index }) array charges) events' value count'
   unfolding step step_if end_words
   performs c s r n e₁ e₂ e₃ e₄ small e₅ =
       record {
@@ -66,7 +67,7 @@ module _ (now : Time) (k : Chip) (fit : Fit k) (o : Option Pulse) (open_is : o �
 -- a call that does not settle
 pub performs-stored : (c : Call) (now : Time) (k : Chip) (lent : List ℕ) → settles c now (registers k) ≡ false → (r : Registers) → r ≡ next c now (registers k)
     → (value : ℕ) → value ≡ stored_answer c k.array → value < answer_limit c
-    → Performed c now k lent (chip (record { registers = r; pulse_since = k.flash.pulse_since; sensed = k.flash.sensed; indices = k.flash.indices }) k.array k.charges) lent value 0
+    → Performed c now k lent (chip (record (k.flash) { registers = r }) k.array k.charges) lent value 0
 unfolding step step_if
 performs-stored c now k lent s r n value e small =
     record {

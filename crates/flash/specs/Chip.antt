@@ -35,6 +35,10 @@ registers k = k.flash.registers
 abbrev pub cells : Chip → Cells
 cells k = record { index = k.flash.indices; array = k.array; charges = k.charges }
 
+-- the chip with these in their place
+abbrev pub with_cells : Cells → Chip → Chip
+with_cells c k = record { flash = record (k.flash) { indices = c.index }; array = c.array; charges = c.charges }
+
 -- index, array and charges as a settle at a time leaves them
 abbrev pub settled_at : Time → Chip → Cells
 settled_at now k = settled_by (pulse (registers k)) (registers k).latch k.flash.pulse_since now (cells k)
@@ -78,31 +82,12 @@ sensed_after (Environment mode modul oscillator) sensed = sensed
 -- then the end of its pulse does.
 unfoldable pub step_if : Bool → Call → Time → Chip → Step
 step_if false c now k =
-    record {
-      chip = record {
-        flash = record {
-          registers = next c now (registers k);
-          pulse_since = k.flash.pulse_since;
-          sensed = k.flash.sensed;
-          indices = k.flash.indices;
-        };
-        array = k.array;
-        charges = k.charges;
-      };
-      events = [];
-    }
+    record { chip = record k { flash = record (k.flash) { registers = next c now (registers k) } }; events = [] }
 step_if true c now k =
     record {
-      chip = record {
-        flash = record {
-          registers = next c now (registers k);
-          pulse_since = now;
-          sensed = sensed_after c (sensed_at now k);
-          indices = (settled_at now k).index;
-        };
-        array = (settled_at now k).array;
-        charges = (settled_at now k).charges;
-      };
+      chip = with_cells (settled_at now k) (record k {
+        flash = record (k.flash) { registers = next c now (registers k); pulse_since = now; sensed = sensed_after c (sensed_at now k) };
+      });
       events = changes 0 k.array (settled_at now k).array ++ end_words c now (registers k);
     }
 

@@ -118,36 +118,21 @@ pending-back (Some p) = refl
 registers-back : (r : Registers) (since : Time) → registers_of (head_of r) (addresses_of r) (halves_of r since) r.latch ≡ r
 unfolding registers_of head_of addresses_of halves_of
 registers-back r since =
-    λ i. record {
-      control = r.control;
+    λ i. record r {
       error = flag-back r.error i;
-      erase = r.erase;
       enabled = flag-back r.enabled i;
       power_down_disabled = flag-back r.power_down_disabled i;
-      latch = r.latch;
-      page = r.page;
       supply = supply-back r.supply i;
       oscillator = flag-back r.oscillator i;
       mode = mode-back r.mode i;
       «module» = flag-back r.«module» i;
-      ready = r.ready;
-      swe_ready = r.swe_ready;
-      program_ready = r.program_ready;
-      erase_ready = r.erase_ready;
-      recovery = r.recovery;
-      verify_ready = r.verify_ready;
       verify_pending = pending-back r.verify_pending i;
     }
 
 state-back : (s : Flash) → state_of (rows_of s) ≡ s
 unfolding state_of rows_of halves_of
 state-back s =
-    λ i. record {
-      registers = registers-back s.registers s.pulse_since i;
-      pulse_since = s.pulse_since;
-      sensed = s.sensed;
-      indices = s.indices;
-    }
+    λ i. record s { registers = registers-back s.registers s.pulse_since i }
 
 -- the rows of a state's record are the state's
 pub rows-encoded : (s : Flash) → Fits s → rows_in (encoded s) ≡ rows_of s

@@ -233,7 +233,7 @@ sound-step c now k e inv h = by (settles c now (registers k))
         (record { control = h.control; erase = tt; latch = tt; page = (h.page_aligned, h.page_inside); ready = tt; swe_ready = tt; program_ready = tt; erase_ready = tt; recovery = tt; verify_ready = tt; pending = h.pending })
 
     with-slots : (since : Time) (sensed index : List ℕ) → slots_sound index ≡ true
-        → Sound (record { registers = next c now (registers k); pulse_since = since; sensed = sensed; indices = index })
+        → Sound (record (k.flash) { registers = next c now (registers k); pulse_since = since; sensed = sensed; indices = index })
     with-slots since sensed index s =
         record { control = kept.control; page_aligned = kept.page.0; page_inside = kept.page.1; pending = kept.pending; slots = s }
 

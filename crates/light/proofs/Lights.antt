@@ -62,14 +62,14 @@ light-says may control since what t e =
 module _ (a v : ℕ) (t : Time) (k : Chip) (shut : pulse (registers k) ≡ None) (nothing : (registers k).verify_pending ≡ None) where
   abbrev written : Flash
   written =
-      record { registers = write_register a v t (registers k); pulse_since = since_after (registers k).enabled a k.flash.pulse_since t; sensed = k.flash.sensed; indices = k.flash.indices }
+      record (k.flash) { registers = write_register a v t (registers k); pulse_since = since_after (registers k).enabled a k.flash.pulse_since t }
 
-  light-step : step (call.WriteRegister a v) t k ≡ record { chip = chip written k.array k.charges; events = [] }
+  light-step : step (call.WriteRegister a v) t k ≡ record { chip = record k { flash = written }; events = [] }
   unfolding step step_if next settles settled_by sensed_by ended end_words
   light-step = by (not (eqb a FENR) && (registers k).enabled)
     where
       by : (b : Bool) → step_if b (call.WriteRegister a v) t k
-          ≡ record { chip = record { flash = record { registers = write_register a v t (registers k); pulse_since = cond b t k.flash.pulse_since; sensed = k.flash.sensed; indices = k.flash.indices }; array = k.array; charges = k.charges }; events = [] }
+          ≡ record { chip = record k { flash = record (k.flash) { registers = write_register a v t (registers k); pulse_since = cond b t k.flash.pulse_since } }; events = [] }
       by false = refl
       by true = rw (shut, nothing, changes-same 0 k.array, either-way {A = List ℕ})
 

@@ -13,7 +13,7 @@ use Rattle.access.specs.Settings.{with_settings}
 -- the state with these settings, last settled then
 abbrev pub lit : Flash → Settings → Time → Flash
 lit f s since =
-    record { registers = with_settings s f.registers; pulse_since = since; sensed = f.sensed; indices = f.indices }
+    record f { registers = with_settings s f.registers; pulse_since = since }
 
 -- whether control opens a pulse, in registers that let it
 abbrev pub opens : Bool → ℕ → Bool

@@ -56,7 +56,9 @@ pub fn run(
             };
         }
         let asking = call_at(calls, i);
-        let last = attempt(flash, array, charges, events, asking);
+        let made = attempt(*flash, array, charges, events, asking);
+        *flash = made.flash;
+        let last = made.answer;
         i += 1;
         if stops(asking.request, last) {
             return Replayed { done: i, last };

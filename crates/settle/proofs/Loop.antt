@@ -38,7 +38,7 @@ slot_same s f g qs h = mapi-same _ _ qs (λ i l. by i (eqb (i / 1024) s) refl)
     by i false e = refl
 
 abbrev pub with_array : List ℕ → Cells → Cells
-with_array xs c = record { index = c.index; array = xs; charges = c.charges }
+with_array xs c = record c { array = xs }
 
 module _ (c : Cells) (xs : List ℕ) where
   pub cell-own : (i : ℕ) → at c.array (i / 8) ≡ at xs (i / 8) → cell_at c i ≡ cell_at (with_array xs c) i

@@ -36,9 +36,8 @@ slot_for index p = slot_of (at index p) (opened index)
 -- Page p takes its slot, and each of its cells i with charge q has f i q there.
 unfoldable pub on_page : (ℕ → ℕ → ℕ) → ℕ → Cells → Cells
 on_page f p c =
-    record {
+    record c {
       index = set c.index p (suc (slot_for c.index p));
-      array = c.array;
       charges = on_slot (slot_for c.index p) (λ j q. f (p * page_cells + j) (cell_at c (p * page_cells + j))) c.charges;
     }
 

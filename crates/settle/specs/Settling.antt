@@ -62,10 +62,8 @@ resensed p q array = mapi (λ a b. cond (covers p (a / page_bytes)) (normal_byte
 unfoldable pub expose : Pulse → List ℕ → ℕ → Cells → Cells
 expose p latch zero c = c
 expose p latch (suc l) c =
-    record {
-      index = (on_pages (charged p latch (suc l)) p.pages p.first c).index;
+    record (on_pages (charged p latch (suc l)) p.pages p.first c) {
       array = resensed p (λ i. ruled p latch (suc l) i (cell_at c i)) c.array;
-      charges = (on_pages (charged p latch (suc l)) p.pages p.first c).charges;
     }
 
 -- index, array and charges after a settle

@@ -12,7 +12,7 @@ use Rattle.time.specs.declared.Time.{Time}
 use Rattle.cell.specs.Cell.{at, page_bytes}
 use Rattle.registers.specs.declared.Call.{Call}
 use Rattle.registers.specs.Pulses.{pulse}
-use Rattle.registers.specs.Calls.{next, settles}
+use Rattle.registers.specs.Calls.{settles}
 use Rattle.settle.specs.Pages.{cell_at, opened}
 use Rattle.settle.specs.Settling.{changes, end_words}
 use Rattle.settle.proofs.Slots.{SlotsOf, slots-from}
@@ -36,10 +36,10 @@ use Rattle.snapshot.proofs.IndexBack.{decoded-long, step-index}
 
 -- the chip and the memory with other charges
 abbrev chip_with : List ℕ → Chip → Chip
-chip_with qs k = chip k.flash k.array qs
+chip_with qs k = record k { charges = qs }
 
 abbrev memory_with : List ℕ → Memory → Memory
-memory_with qs m = lent m.bytes m.array qs
+memory_with qs m = record m { charges = qs }
 
 -- ---- a chip
 
@@ -76,9 +76,7 @@ module _ (k : Chip) (qs : List ℕ) (inv : SlotsOf (cells k)) (s : Same (cells k
       where
         by : (b : Bool) → (step_if b c now (chip_with qs k)).chip.flash ≡ (step_if b c now k).chip.flash
         by true =
-            λ i. record {
-              registers = next c now (registers k);
-              pulse_since = now;
+            λ i. record ((step_if true c now k).chip.flash) {
               sensed = sensed_after c (sensed-same i);
               indices = settled_same.index_is i;
             }

@@ -22,6 +22,7 @@ use Rattle.flash.specs.Chip.{no_pages}
 use Rattle.layout.specs.Layout.{index_row, placed}
 use Rattle.layout.proofs.Accepted.{placed-told}
 use Rattle.rows.specs.Rows.{Fills}
+use Rattle.settle.specs.Views as views
 use Rattle.snapshot.specs.Snapshot.{ChargePage, addresses, place_of, slot_pages, indexed, cells_of}
 use Rattle.snapshot.proofs.Good.{GoodPage, GoodPages}
 use Rattle.snapshot.proofs.Pigeon.{place_is, opened-none, slot-has-page}
@@ -183,7 +184,7 @@ entered-more {before} {index} n p g =
     inside = omega (arith, placed_is p.0 g.address, n.long)
 
     sound_more : slots_sound (set index q (suc s)) ≡ true
-    sound_more = rw (slot_next index q (entered-free n g), n.count) at (slots-sound (page-slots (record { index = index; array = []; charges = store }) (slots-of n) q (λ i v. v)))
+    sound_more = rw (slot_next index q (entered-free n g), n.count) at (slots-sound (page-slots (views.cells_of index [] store) (slots-of n) q (λ i v. v)))
 
     by : (a : ℕ) → placed a 128 ≡ true → Dec (a ≡ p.0)
         → eqb (at (set index q (suc s)) (a / 128)) 0 ≡ not (eqb a p.0 || holds a (addresses before))

@@ -56,7 +56,7 @@ module _ (c : Cells) (inv : SlotsOf c) (f : ℕ → ℕ → ℕ) (p : ℕ) where
   unfolding on_page
   same-page {c'} s =
       record {
-        index_is = ap (λ x. (on_page f p (record { index = x; array = c.array; charges = c.charges })).index) s.index_is;
+        index_is = ap (λ x. (on_page f p (record c { index = x })).index) s.index_is;
         array_is = s.array_is;
         long = length-on_slot _ _ c'.charges ∙ s.long ∙ sym (length-on_slot _ _ c.charges);
         used = λ i h.

@@ -27,8 +27,8 @@ settled_answer-value-requires c =
 -- lent memory that is what a step left
 moved : {c : Call} {now since : Time} {k : Chip} {lent : List ℕ} {r : Registers} {sensed index index' array array' charges charges' events : List ℕ} {value count : ℕ}
     → index ≡ index' → array ≡ array' → charges ≡ charges'
-    → Performed c now k lent (chip (record { registers = r; pulse_since = since; sensed = sensed; indices = index' }) array' charges') events value count
-    → Performed c now k lent (chip (record { registers = r; pulse_since = since; sensed = sensed; indices = index }) array charges) events value count
+    → Performed c now k lent (chip (record (k.flash) { registers = r; pulse_since = since; sensed = sensed; indices = index' }) array' charges') events value count
+    → Performed c now k lent (chip (record (k.flash) { registers = r; pulse_since = since; sensed = sensed; indices = index }) array charges) events value count
 moved e g h p = rw (e, g, h) p
 
 pub returns : goal.returns
