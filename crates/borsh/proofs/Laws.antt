@@ -14,6 +14,7 @@ use Rattle.rows.specs.Rows.{word, bytes, flag_byte, flag_of}
 use Rattle.rows.proofs.Widths.{length-bytes, word_bytes, bytes_word, word_small}
 use Rattle.rows.proofs.Flags.{flag-known}
 use Rattle.std.specs.Prelude.{Option, Some, None}
+use Rattle.refusal.specs.declared.Refusal.TheVariants.{EndsEarly, Field}
 use Rattle.borsh.specs.Borsh.{Refused, refused, Read, next, Borsh, int, only, mapped, enum, bool, ◌then◌, option, write_option, write_all, read_all, array, vec}
 use Rattle.std.specs.Prelude.{Ok, Err}
 
@@ -91,7 +92,7 @@ int-lawful n = lawful back exact
     exact : (xs : List ℕ) → Bytes xs → Reads (Exact (Wide n) (bytes n) xs) ((int n).read xs)
     exact xs b = by (ltb (length xs) n) refl
       where
-        by : (s : Bool) → ltb (length xs) n ≡ s → Reads (Exact (Wide n) (bytes n) xs) (cond s (Err (refused 9)) (Ok (word n xs 0, drop n xs)))
+        by : (s : Bool) → ltb (length xs) n ≡ s → Reads (Exact (Wide n) (bytes n) xs) (cond s (Err (refused EndsEarly)) (Ok (word n xs 0, drop n xs)))
         by true e = is-refused
         by false e =
             let long : 0 + n ≤ length xs = omega (arith, ltb-false (length xs) n e) in
@@ -114,7 +115,7 @@ module _ {A : Type 0} {Good : A → Type 0} {f : Borsh A} (l : Lawful Good f) wh
       (λ xs b. next-reads (reads l xs b) λ v rest x. by xs v rest x (allowed v) refl)
     where
       by : (xs : List ℕ) (v : A) (rest : List ℕ) → Exact Good f.write xs v rest → (s : Bool) → allowed v ≡ s
-          → Reads (Exact (λ v. Good v × (allowed v ≡ true)) f.write xs) (cond s (Ok (v, rest)) (Err (refused 10)))
+          → Reads (Exact (λ v. Good v × (allowed v ≡ true)) f.write xs) (cond s (Ok (v, rest)) (Err (refused Field)))
       by xs v rest x true e = is-got v rest (x.0, ((x.1.0, e), x.1.1))
       by xs v rest x false e = is-refused
 

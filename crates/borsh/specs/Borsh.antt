@@ -3,6 +3,9 @@
 -- array is its values; a vec is its count in four bytes and its values; a struct is its fields in order.
 -- Assumes nothing.
 use Rattle.std.specs.Prelude.{ℕ, zero, suc, List, [], ◌∷◌, ◌++◌, Bool, true, false, cond, length, drop, ltb, leb, Option, Some, None, Result, Ok, Err}
+use Rattle.refusal.specs.declared.Refusal.{Refusal}
+use Rattle.refusal.specs.declared.Refusal.TheVariants.{EndsEarly, Field}
+use Rattle.refusal.specs.Refusal.{number}
 use Rattle.rows.specs.Rows.{word, bytes, flag_byte, flag_of}
 
 infixr 4 ◌then◌
@@ -12,8 +15,8 @@ infixr 4 ◌then◌
 pub record Refused : Type 0 where
   pub number : ℕ
 
-abbrev pub refused : ℕ → Refused
-refused n = record { number = n }
+abbrev pub refused : Refusal → Refused
+refused r = record { number = number r }
 
 -- What reading gives: a value and the bytes after it, or a refusal.
 abbrev pub Read : Type 0 → Type 0
@@ -32,12 +35,12 @@ pub record Borsh (A : Type 0) : Type 0 where
 
 -- An integer of n bytes. 9: the bytes end early.
 unfoldable pub int : ℕ → Borsh ℕ
-int n = record { write = bytes n; read = λ xs. cond (ltb (length xs) n) (Err (refused 9)) (Ok (word n xs 0, drop n xs)) }
+int n = record { write = bytes n; read = λ xs. cond (ltb (length xs) n) (Err (refused EndsEarly)) (Ok (word n xs 0, drop n xs)) }
 
 -- Not every value is allowed. 10: this one is not.
 unfoldable pub only : {A : Type 0} → (A → Bool) → Borsh A → Borsh A
 only allowed f =
-    record { write = f.write; read = λ xs. next (λ v rest. cond (allowed v) (Ok (v, rest)) (Err (refused 10))) (f.read xs) }
+    record { write = f.write; read = λ xs. next (λ v rest. cond (allowed v) (Ok (v, rest)) (Err (refused Field))) (f.read xs) }
 
 -- the values of another type
 unfoldable pub mapped : {A B : Type 0} → (A → B) → (B → A) → Borsh A → Borsh B

@@ -101,7 +101,7 @@ called w n a d = unless_stopped d (noted w n a (outcome a.request a.time d.event
 -- ---- looks
 
 abbrev pub looked_refusal : Looking → Time → Memory → ℕ
-looked_refusal Whole t m = look_refusal false t m
+looked_refusal Whole t m = look_refusal 0 t m
 looked_refusal (Byte a) t m = peek_refusal a t m
 looked_refusal (Cell a bit) t m = charge_refusal a bit t m
 

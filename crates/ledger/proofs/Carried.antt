@@ -17,7 +17,7 @@ use Rattle.settle.proofs.Loop.{changes-same}
 use Rattle.flash.specs.Chip.{Chip, registers, cells, step, answer}
 use Rattle.layout.specs.Whole.{TimeFits}
 use Rattle.lent.specs.Memory.{Memory, chip_in}
-use Rattle.lent.specs.Asked.{Outcome, call_of, misplaced, refusal, outcome_by, outcome}
+use Rattle.lent.specs.Asked.{Outcome, call_of, refusal, outcome_by, outcome, call_place}
 use Rattle.lent.proofs.Tells.{request-placed}
 use Rattle.ledger.specs.Words.{applied, bytes_in, ends_in}
 use Rattle.ledger.specs.Ledger.{Ledger, look, entered}
@@ -28,7 +28,7 @@ use Rattle.ledger.proofs.Kept.{numbers-arguments}
 use Rattle.ledger.proofs.Order.{Lasting, lasting-step, order-in, order-good, order-back, order-step}
 use Rattle.ledger.proofs.Agree.{Agree, agree-step, stored-settled, entered-ends}
 use Rattle.ledger.proofs.Events.{step-now, step-array, step-applied, step-bytes, step-ends}
-use Rattle.ledger.proofs.Accepted.{Passed, words_line, call-passed, enough, words-given}
+use Rattle.ledger.proofs.Accepted.{Passed, words_line, call-passed, enough, words-given, call-placed}
 
 -- ---- from memory to memory
 
@@ -44,7 +44,7 @@ pub record Carried (m m' : Memory) (after : Ledger → Ledger) : Type 1 where
 -- What an outcome o keeps and tells: an accepted call passed the checks and answered as the chip does; any call's words are its events.
 pub record Called (q : Asked) (m : Memory) (o : Outcome) : Type 1 where
   pub carried : Numbers q.request → TimeFits q.time → Carried m o.memory (enter (heard q o))
-  pub passed : o.number ≡ 0 → Passed (misplaced q.request) q.time m (words_line q.request q.time (length q.lent) m)
+  pub passed : o.number ≡ 0 → Passed (call_place q.request) q.time m (words_line q.request q.time (length q.lent) m)
   pub value : o.number ≡ 0 → o.value ≡ answer (call_of q.request) q.time (chip_in m)
   pub stored : (led : Ledger) → Agree (chip_in m) led → Senses (cells (chip_in m)) → o.number ≡ 0
       → settles (call_of q.request) q.time (registers (chip_in m)) ≡ true
@@ -81,7 +81,7 @@ module _ (q : Asked) (m : Memory) (g : Good m) where
       let w = words-given (step c now k).events q.lent (enough q.request now (length q.lent) m e) in
       record {
         carried = λ h t.
-            let o' = order-step c now k (numbers-arguments q.request h) t p.in_time (request-placed q.request p.placed) o in
+            let o' = order-step c now k (numbers-arguments q.request h) t p.in_time (request-placed q.request (call-placed q.request now (length q.lent) m e)) o in
             let back = sym (order-back k' o') in
             record {
               good = order-good k' o';

@@ -12,7 +12,7 @@ use Rattle.lent.proofs.Tells.{request-placed}
 use Rattle.ledger.specs.Lists.{Asked, Typed, events_of}
 use Rattle.ledger.proofs.Kept.{numbers-arguments}
 use Rattle.ledger.proofs.Order.{InOrder, order-good, order-back, order-step}
-use Rattle.ledger.proofs.Accepted.{call-passed, enough, words-given}
+use Rattle.ledger.proofs.Accepted.{call-passed, enough, words-given, call-placed}
 
 -- a call of a list as a step of the chip
 abbrev pub stepped : Asked → Chip → Step
@@ -51,4 +51,4 @@ clear-events (q ∷ qs) k t c o =
     one-events q k o c.0 qs
     ∙ ap (λ (es : List ℕ). (stepped q k).events ++ es)
     (clear-events qs (stepped q k).chip t.2 c.1
-    (order-step (call_of q.request) q.time k (numbers-arguments q.request t.0) t.1 p.in_time (request-placed q.request p.placed) o))
+    (order-step (call_of q.request) q.time k (numbers-arguments q.request t.0) t.1 p.in_time (request-placed q.request (call-placed q.request q.time (length q.lent) (memory_of k) (not-refused q k o c.0))) o))

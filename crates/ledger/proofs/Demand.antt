@@ -2,7 +2,7 @@
 -- after a list carries a chip that agrees with the ledger after it; each field of the claim is what that says of a look, a read or any next
 -- call. Demand 3 is the case of a new array. Assumes nothing.
 use mathlib.Core.Path.{◌≡◌, refl, sym, ap, subst, ◌∙◌}
-use mathlib.Core.Bool.{true, false, ◌||◌}
+use mathlib.Core.Bool.{true}
 use mathlib.Core.List.{List, [], ◌∷◌}
 use Prim.Native.Nat.{ℕ, zero, suc, ◌+◌, ◌*◌, ◌≤◌, ◌<◌}
 use native.Mathlib.Nat.{le_refl}
@@ -10,7 +10,7 @@ use native.Mathlib.Omega.{arith}
 use borrow.Author.Tests.{leb-false, ltb-false}
 use lib.Dec.{ltb}
 use lib.ListN.{length}
-use Rattle.std.proofs.lemmas.Bool.{or_parts}
+use Rattle.refusal.specs.declared.Refusal.TheVariants as refused
 use Rattle.time.specs.declared.Time.{Time}
 use Rattle.time.specs.Raw.{raw, instant}
 use Rattle.cell.specs.Cell.{at}
@@ -25,10 +25,11 @@ use Rattle.flash.proofs.Fresh.{fresh-cell, fresh-senses}
 use Rattle.settle.proofs.Expose.{Senses, settled-array-length, expose-senses}
 use Rattle.layout.proofs.Back.{written-reads-back}
 use Rattle.lent.specs.declared.Request.TheVariants.{Read8, Read16}
-use Rattle.lent.specs.Memory.{Memory, chip_in, check, past_end, bit_over}
+use Rattle.lent.proofs.Looks.{inside, cell-inside}
+use Rattle.lent.specs.Memory.{Memory, chip_in, check, past_end}
 use Rattle.lent.specs.Asked.{outcome}
 use Rattle.lent.proofs.Lines.{line}
-use Rattle.lent.specs.Looked.{sized_refusal, charge_refusal, charge_answer, peek_refusal, peek_answer, output_refusal, image_refusal, image_left}
+use Rattle.lent.specs.Looked.{address_place, cell_place, sized_refusal, charge_refusal, charge_answer, peek_refusal, peek_answer, output_refusal, image_refusal, image_left}
 use Rattle.ledger.specs.Words.{applied, ends_in}
 use Rattle.ledger.specs.Ledger.{Ledger, look, fresh_ledger, ledger_of}
 use Rattle.ledger.specs.Lists.{Asked, Typed, new_memory}
@@ -52,9 +53,9 @@ module _ (m : Memory) (led : Ledger) (g : Good m) (a : Agree (chip_in m) led) wh
   charge-look : (b bit : ℕ) (t : Time) → charge_refusal b bit t m ≡ 0 → charge_answer b bit t m ≡ look t led (8 * b + bit)
   unfolding charge_refusal sized_refusal charge_answer charge_at
   charge-look b bit t e =
-      let p = passed (past_end b || bit_over bit) t m [] e in
-      let o = or_parts (past_end b) (bit_over bit) p.placed in
-      look-settled (order-in m g).cells.slots a t p.since (8 * b + bit) (omega (arith, leb-false 49152 b o.0, ltb-false 7 bit o.1))
+      let p = passed (cell_place b bit) t m [] e in
+      let o = cell-inside b bit refl p.placed in
+      look-settled (order-in m g).cells.slots a t p.since (8 * b + bit) (omega (arith, o.0, o.1))
 
   -- charges, registers and events
   booked : (array events : List ℕ) → applied events array ≡ m.array → led.ends ≡ ends_in events → Booked array events m led
@@ -78,8 +79,8 @@ module _ (m : Memory) (led : Ledger) (g : Good m) (a : Agree (chip_in m) led) wh
     peek-look : (b : ℕ) (t : Time) → peek_refusal b t m ≡ 0 → peek_answer b t m ≡ normal_byte (look t led) b
     unfolding peek_refusal sized_refusal peek_answer peek_at
     peek-look b t e =
-        let p = passed (past_end b) t m [] e in
-        settled t p.since b (leb-false 49152 b p.placed)
+        let p = passed (address_place b) t m [] e in
+        settled t p.since b (inside b refl p.placed)
 
     image-long : (t : Time) → length (image_at t (chip_in m)) ≡ 49152
     unfolding image_at
@@ -87,9 +88,9 @@ module _ (m : Memory) (led : Ledger) (g : Good m) (a : Agree (chip_in m) led) wh
         let r = registers (chip_in m) in
         settled-array-length r.latch (chip_in m).flash.pulse_since t (cells (chip_in m)) (pulse r) ∙ (order-in m g).cells.long
 
-    image-passed : (t : Time) (room : ℕ) → image_refusal t room m ≡ 0 → Passed false t m (check 8 (ltb room 49152) ∷ [])
+    image-passed : (t : Time) (room : ℕ) → image_refusal t room m ≡ 0 → Passed 0 t m (check refused.Output (ltb room 49152) ∷ [])
     unfolding image_refusal output_refusal
-    image-passed t room e = passed false t m (check 8 (ltb room 49152) ∷ []) e
+    image-passed t room e = passed 0 t m (check refused.Output (ltb room 49152) ∷ []) e
 
     image-look : (t : Time) (out : List ℕ) → image_refusal t (length out) m ≡ 0
         → (b : ℕ) → b < 49152 → at (image_left (image_refusal t (length out) m) t m out) b ≡ normal_byte (look t led) b
@@ -105,7 +106,7 @@ module _ (m : Memory) (led : Ledger) (g : Good m) (a : Agree (chip_in m) led) wh
     read_byte b t lent e r =
         let o = called (record { request = Read8 b; time = t; lent = lent }) m g in
         let p = o.passed e in
-        o.value e ∙ served_byte (order-in m g).cells n a t p.since r b (leb-false 49152 b p.placed)
+        o.value e ∙ served_byte (order-in m g).cells n a t p.since r b (leb-false 49152 b (line 3 (past_end b) 0 p.placed).0)
 
     read_word : (b : ℕ) (t : Time) (lent : List ℕ) → (outcome (Read16 b) t lent m).number ≡ 0 → normal t (registers (chip_in m)) ≡ true
         → (outcome (Read16 b) t lent m).value ≡ 256 * normal_byte (look t led) b + normal_byte (look t led) (suc b)
@@ -113,7 +114,7 @@ module _ (m : Memory) (led : Ledger) (g : Good m) (a : Agree (chip_in m) led) wh
     read_word b t lent e r =
         let o = called (record { request = Read16 b; time = t; lent = lent }) m g in
         let p = o.passed e in
-        o.value e ∙ served_word (order-in m g).cells n a t p.since r b (leb-false 49152 (suc b) p.placed)
+        o.value e ∙ served_word (order-in m g).cells n a t p.since r b (leb-false 49152 (suc b) (line 3 (past_end (suc b)) 0 p.placed).0)
 
     -- bytes
     shown : Shown m led

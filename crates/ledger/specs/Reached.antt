@@ -2,6 +2,8 @@
 -- snapshot".
 -- Assumes nothing.
 use Rattle.std.specs.Prelude.{ℕ, ◌<◌, ◌≡◌, true, false, List, ltb, length}
+use Rattle.refusal.specs.declared.Refusal.TheVariants as refused
+use Rattle.refusal.specs.Refusal.{number}
 use Rattle.time.specs.declared.Time.{Time}
 use Rattle.cell.specs.Cell.{array_bytes, array_cells, at}
 use Rattle.layout.specs.Layout.{decoded}
@@ -34,7 +36,7 @@ pub record ReachedReadsBack : Type 0 where
       → (read_refusal t (snapshot_of (chip_in m)) m' ≡ 0) × Alike m (memory_read 0 (snapshot_of (chip_in m)) m')
   -- with erase 64 or 128 it is refused by 12
   pub erase_refused : (m m' : Memory) (t : Time) → Reached m → misfits m' ≡ false → last_second t ≡ false
-      → ltb (decoded m.bytes).registers.erase 64 ≡ false → read_refusal t (snapshot_of (chip_in m)) m' ≡ 12
+      → ltb (decoded m.bytes).registers.erase 64 ≡ false → read_refusal t (snapshot_of (chip_in m)) m' ≡ number refused.Invalid
   -- its array is what its charges sense, and so is that of memory which its snapshot was read into
   pub matches : (m : Memory) → Reached m → Matches m
   pub still_matches : (m m' : Memory) → Whole m → Alike m m' → Matches m → Matches m'

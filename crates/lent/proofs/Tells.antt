@@ -17,7 +17,7 @@ use Rattle.settle.specs.Settling.{range_bytes}
 use Rattle.flash.specs.Chip.{placed, answer_limit}
 use Rattle.lent.specs.declared.Request.{Request}
 use Rattle.lent.specs.declared.Request.TheVariants.{WriteRegister, Write8, Read8, Read16, Protect, Reset, PowerOff, Environment}
-use Rattle.lent.specs.Memory.{last_second, too_early, too_few_words}
+use Rattle.lent.specs.Memory.{is_refusal, last_second, too_early, too_few_words}
 use Rattle.lent.specs.Asked.{call_of, misplaced, call_refusal}
 
 -- no answer is a byte
@@ -56,7 +56,7 @@ passes q now words s e =
     by (misplaced q) (last_second now) (too_early now s) (settles (call_of q) now s.registers && too_few_words (pulse s.registers) words) refl refl refl e
   where
     by : (a b c d : Bool) → misplaced q ≡ a → last_second now ≡ b → (settles (call_of q) now s.registers && too_few_words (pulse s.registers) words) ≡ d
-        → ◌≡◌ {A = ℕ} (cond a 4 (cond b 5 (cond c 6 (cond d 7 0)))) 0 → Passes q now words s
+        → ◌≡◌ {A = ℕ} (cond (is_refusal (cond a 4 0)) (cond a 4 0) (cond b 5 (cond c 6 (cond d 7 0)))) 0 → Passes q now words s
     by false false false false x y z h =
         record { placed_is = request-placed q x; in_time = leb-false (2 ^ 64 - 1) now.0 y; enough = words-enough _ (range_bytes (pulse s.registers)) words z }
     by false false false true x y z h = absurd (omega (arith, h))

@@ -3,6 +3,7 @@
 use Rattle.std.specs.Prelude.{ℕ, zero, suc, ◌≡◌, Bool, false, ◌&&◌, List, [], ◌∷◌, length, Result, Ok, Err}
 use Rattle.std.proofs.lemmas.List.Edits.{sets}
 use Rattle.refusal.specs.declared.Refusal.{Refusal}
+use Rattle.refusal.specs.declared.Refusal.TheVariants as refused
 use Rattle.refusal.specs.Refusal.{told}
 use Rattle.time.specs.declared.Time.{Time}
 use Rattle.registers.specs.declared.Call.{Call}
@@ -15,7 +16,7 @@ use Rattle.layout.specs.Layout.{mode_of, decoded, refused3}
 use Rattle.flash.specs.declared.Answer.{Answer}
 use Rattle.lent.specs.declared.Request.{Request}
 use Rattle.lent.specs.declared.Request.TheVariants.{WriteRegister, Write8, Read8, Read16, Protect, Reset, PowerOff, Environment}
-use Rattle.lent.specs.Memory.{Memory, chip_in, memory_of, Check, check, first_given, misfits, past_end, mode_over, last_second, too_early, too_few_words}
+use Rattle.lent.specs.Memory.{Memory, chip_in, memory_of, Check, check, place_line, first_given, misfits, past_end, mode_over, last_second, too_early, too_few_words}
 
 -- the call that is asked for
 abbrev pub call_of : Request → Call
@@ -39,20 +40,23 @@ misplaced Reset = false
 misplaced PowerOff = false
 misplaced (Environment mode modul oscillator) = mode_over mode
 
+abbrev pub call_place : Request → ℕ
+call_place q = first_given (check refused.Place (misplaced q) ∷ [])
+
 -- The table's lines for a call that is lent so many event words, from 4 on. Line 7 is for calls that settle.
 abbrev pub call_checks : Request → Time → ℕ → Flash → List Check
 call_checks q now words s =
-    check 4 (misplaced q)
-    ∷ check 5 (last_second now)
-    ∷ check 6 (too_early now s)
-    ∷ check 7 (settles (call_of q) now s.registers && too_few_words (pulse s.registers) words)
+    place_line (call_place q)
+    ∷ check refused.LastSecond (last_second now)
+    ∷ check refused.TooEarly (too_early now s)
+    ∷ check refused.Events (settles (call_of q) now s.registers && too_few_words (pulse s.registers) words)
     ∷ []
 
 unfoldable pub call_refusal : Request → Time → ℕ → Flash → ℕ
 call_refusal q now words s = first_given (call_checks q now words s)
 
 abbrev pub checks : Request → Time → ℕ → Memory → List Check
-checks q now words m = check 2 (misfits m) ∷ check 3 (refused3 m.bytes) ∷ call_checks q now words (decoded m.bytes)
+checks q now words m = check refused.Memory (misfits m) ∷ check refused.Record (refused3 m.bytes) ∷ call_checks q now words (decoded m.bytes)
 
 unfoldable pub refusal : Request → Time → ℕ → Memory → ℕ
 refusal q now words m = first_given (checks q now words m)

@@ -1,6 +1,9 @@
 -- Lent memory, and the refusals of document 01's table as checks in its order: the first that fails gives its number.
 -- Assumes nothing.
-use Rattle.std.specs.Prelude.{ℕ, ◌-◌, ◌^◌, Bool, cond, not, ◌&&◌, ◌||◌, List, [], ◌∷◌, leb, ltb, eqb, length, Option}
+use Rattle.std.specs.Prelude.{ℕ, zero, suc, ◌-◌, ◌^◌, Bool, true, false, cond, not, ◌&&◌, ◌||◌, List, [], ◌∷◌, leb, ltb, eqb, length, Option}
+use Rattle.refusal.specs.declared.Refusal.TheVariants as refused
+use Rattle.refusal.specs.declared.Refusal.{Refusal}
+use Rattle.refusal.specs.Refusal.{number}
 use Rattle.time.specs.declared.Time.{Time}
 use Rattle.time.specs.Raw.{raw}
 use Rattle.cell.specs.Cell.{array_bytes, array_cells}
@@ -38,8 +41,16 @@ pub record Check : Type 0 where
   pub number : ℕ
   pub given : Bool
 
-abbrev pub check : ℕ → Bool → Check
-check n b = record { number = n; given = b }
+abbrev pub check : Refusal → Bool → Check
+check r b = record { number = number r; given = b }
+
+-- The place line, by its own number: 0 where nothing is wrong with an address, a bit or a mode.
+abbrev pub is_refusal : ℕ → Bool
+is_refusal zero = false
+is_refusal (suc n) = true
+
+abbrev pub place_line : ℕ → Check
+place_line n = record { number = n; given = is_refusal n }
 
 -- First failing line wins; 0 is no refusal.
 abbrev pub first_given : List Check → ℕ
@@ -75,7 +86,7 @@ abbrev pub too_early : Time → Flash → Bool
 too_early t s = ltb (raw t) (raw s.pulse_since)
 
 unfoldable pub time_refusal : Time → Flash → ℕ
-time_refusal t s = first_given (check 5 (last_second t) ∷ check 6 (too_early t s) ∷ [])
+time_refusal t s = first_given (check refused.LastSecond (last_second t) ∷ check refused.TooEarly (too_early t s) ∷ [])
 
 -- 7: pulse open with range of k > 0 bytes and fewer than k+1 words
 abbrev pub too_few_words : Option Pulse → ℕ → Bool

@@ -1,10 +1,10 @@
 // Lent memory is opened once: its lengths and its record are tested, and the state that the record holds is read.
-ghost use Rattle.std.specs.Prelude.{ℕ, ◌≡◌, ◌<◌, ◌≤◌, false, cond, IfOk, OnOk};
+ghost use Rattle.std.specs.Prelude.{ℕ, ◌≡◌, ◌<◌, ◌≤◌, IfOk, OnOk};
 ghost use Rattle.refusal.specs.Refusal.{told, Answers};
 ghost use Rattle.cell.specs.Cell.{at};
 ghost use Rattle.layout.specs.Layout.{decoded};
-ghost use Rattle.lent.specs.Memory.{record_misfits, misfits};
-ghost use Rattle.lent.specs.Looked.{register_refusal, memory_refusal, look_refusal, output_refusal};
+ghost use Rattle.lent.specs.Memory.{misfits};
+ghost use Rattle.lent.specs.Looked.{size_refusal, register_refusal, memory_refusal, look_refusal, output_refusal};
 ghost use Rattle.lent.specs.Held.{Opened};
 ghost use Rattle.lent.specs.Views.{memory_in, Opens};
 
@@ -20,7 +20,7 @@ use time::Time;
 
 // A record of its one length.
 pub fn sized_record(record: &[u8]) -> Result<&[u8; RECORD_LEN], Refusal>
-    ensures told { told result ≡ cond (record_misfits «record».now) 2 0 }
+    ensures told { told result ≡ size_refusal «record».now }
     ensures same { IfOk result (λ sized. sized.now ≡ «record».now) }
 {
     <&[u8; RECORD_LEN]>::try_from(record).map_err(|_| Refusal::Memory)
@@ -72,16 +72,14 @@ impl<'a> Lent<'a> {
         })
     }
 
-    // The state for a look at a time, and at a place that may be none.
-    #[tactic(auto, unfolding(crate::specs::Memory::time_refusal, crate::specs::Looked::memory_refusal, crate::specs::Looked::sized_refusal))]
-    pub fn opened_at(self, misplaced: bool, time: Time) -> Result<Held<'a>, Refusal>
-        ensures told { Opens (look_refusal misplaced time (memory_in self.entry)) (memory_in self.entry) result }
-        ensures placed { OnOk result (misplaced ≡ false) }
+    // The state for a look at a time, and at a place that may be refused.
+    #[tactic(auto, using(crate::proofs::Lines::placed_given), unfolding(crate::specs::Memory::time_refusal, crate::specs::Looked::memory_refusal, crate::specs::Looked::sized_refusal))]
+    pub fn opened_at(self, place: Result<(), Refusal>, time: Time) -> Result<Held<'a>, Refusal>
+        ensures told { Opens (look_refusal (told place) time (memory_in self.entry)) (memory_in self.entry) result }
+        ensures placed { OnOk result (told place ≡ 0) }
     {
         let held = self.opened()?;
-        if misplaced {
-            return Err(Refusal::Place);
-        }
+        place?;
         in_time(&held.flash, time)?;
         Ok(held)
     }
@@ -97,7 +95,7 @@ impl<'a> Lent<'a> {
         ensures told { Opens (output_refusal needed time room (memory_in self.entry)) (memory_in self.entry) result }
         ensures room { OnOk result (needed ≤ room) }
     {
-        let held = self.opened_at(false, time)?;
+        let held = self.opened_at(Ok(()), time)?;
         if room < needed {
             return Err(Refusal::Output);
         }

@@ -9,6 +9,7 @@ use lib.Dec.{ltb}
 use borrow.Author.Tests.{lt-ltb, le-ltb}
 use lib.ListN.{length, drop}
 use lib.Seq.{sets, sets-eq}
+use Rattle.refusal.specs.declared.Refusal.TheVariants as refused
 use Rattle.settle.specs.Pages.{opened}
 use Rattle.settle.proofs.Slots.{opened-le}
 use Rattle.flash.specs.declared.held.Held.{Held}
@@ -42,13 +43,13 @@ module _ (m : Memory) where
     -- a refusal of the memory comes first
     pub told-first : {n : ℕ} → n ≡ memory_refusal m → n ≢ 0 → n ≡ write_refusal room m
     unfolding memory_refusal write_refusal
-    told-first e h = given-first (memory_checks m) (check 8 (ltb room (length (snapshot_of (chip_in m)))) ∷ []) _ e h
+    told-first e h = given-first (memory_checks m) (check refused.Output (ltb room (length (snapshot_of (chip_in m)))) ∷ []) _ e h
 
     module _ (a : memory_refusal m ≡ 0) (n : ℕ) (e : n ≡ length (snapshot_of (chip_in m))) where
       told-after : write_refusal room m ≡ cond (ltb room (length (snapshot_of (chip_in m)))) 8 0
       unfolding memory_refusal write_refusal
       told-after =
-          given-after (memory_checks m) (check 8 (ltb room (length (snapshot_of (chip_in m)))) ∷ []) (omega arith, (omega arith, tt)) a
+          given-after (memory_checks m) (check refused.Output (ltb room (length (snapshot_of (chip_in m)))) ∷ []) (omega arith, (omega arith, tt)) a
 
       pub told-8 : room < n → 8 ≡ write_refusal room m
       told-8 h = sym (told-after ∙ rw (← e, lt-ltb room n h))

@@ -12,7 +12,7 @@ ghost use Rattle.lent.specs.Looked.{register_refusal, register_answer, normal_re
 
 use access::register;
 use cell::FLASH_SIZE;
-use lent::checking::{in_time, past_end};
+use lent::checking::{address_place, cell_place, in_time};
 use lent::memory::Lent;
 use lent::opening::opened_record;
 use look::imaging::{blank_page, image, peek};
@@ -45,7 +45,8 @@ pub fn see_normal(record: &[u8], time: Time) -> Result<bool, Refusal>
 pub fn see_byte(lent: Lent, address: u16, time: Time) -> Result<u8, Refusal>
     ensures { Answers (peek_refusal address time (memory_in lent.entry)) (peek_answer address time (memory_in lent.entry)) result }
 {
-    let held = lent.opened_at(past_end(address), time)?;
+    let place = address_place(address);
+    let held = lent.opened_at(place, time)?;
     Ok(peek(&held, usize::from(address), time))
 }
 
@@ -54,8 +55,8 @@ pub fn see_byte(lent: Lent, address: u16, time: Time) -> Result<u8, Refusal>
 pub fn see_charge(lent: Lent, address: u16, bit: u8, time: Time) -> Result<u64, Refusal>
     ensures { Answers (charge_refusal address bit time (memory_in lent.entry)) (charge_answer address bit time (memory_in lent.entry)) result }
 {
-    let misplaced = past_end(address) | (7 < bit);
-    let held = lent.opened_at(misplaced, time)?;
+    let place = cell_place(address, bit);
+    let held = lent.opened_at(place, time)?;
     let cell = 8 * usize::from(address) + usize::from(bit);
     Ok(cell_charge(&held, cell, time))
 }
@@ -65,7 +66,8 @@ pub fn see_charge(lent: Lent, address: u16, bit: u8, time: Time) -> Result<u64, 
 pub fn see_blank(lent: Lent, address: u16, time: Time) -> Result<bool, Refusal>
     ensures { Answers (blank_refusal address time (memory_in lent.entry)) (blank_at time (chip_in (memory_in lent.entry)) address) result }
 {
-    let held = lent.opened_at(past_end(address), time)?;
+    let place = address_place(address);
+    let held = lent.opened_at(place, time)?;
     Ok(blank_page(&held, usize::from(address), time))
 }
 

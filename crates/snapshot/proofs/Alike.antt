@@ -168,13 +168,13 @@ module _ (m : Memory) (qs : List ℕ) (long : length qs ≡ length m.charges)
       by (suc n) e =
           record { number = refl; value = refl; events = refl; count = refl; memory = record { record_is = refl; array_is = refl; long = long; used = used } }
 
-  look-same : (misplaced : Bool) (t : Time) → look_refusal misplaced t (memory_with qs m) ≡ look_refusal misplaced t m
+  look-same : (place : ℕ) (t : Time) → look_refusal place t (memory_with qs m) ≡ look_refusal place t m
   unfolding sized_refusal
-  look-same misplaced t = rw long
+  look-same place t = rw long
 
-  slots-looked : (misplaced : Bool) (t : Time) → look_refusal misplaced t m ≡ 0 → SlotsOf (cells (chip_in m))
+  slots-looked : (place : ℕ) (t : Time) → look_refusal place t m ≡ 0 → SlotsOf (cells (chip_in m))
   unfolding sized_refusal
-  slots-looked misplaced t e = slots-in m _ e
+  slots-looked place t e = slots-in m _ e
 
   snapshot-same : snapshot_of (chip_in (memory_with qs m)) ≡ snapshot_of (chip_in m)
   unfolding snapshot_of contents_of

@@ -14,6 +14,7 @@ use Rattle.cell.specs.Cell.{at}
 use Rattle.rows.specs.Rows.{word, row, flag_of}
 use Rattle.rows.proofs.Widths.{word-one}
 use Rattle.std.specs.Prelude.{Some, None}
+use Rattle.refusal.specs.declared.Refusal.TheVariants.{EndsEarly, Field}
 use Rattle.borsh.specs.Borsh.{refused, Read, next, Borsh, int, only, mapped, enum, bool, ◌then◌, option, read_all, array}
 use Rattle.std.specs.Prelude.{Ok, Err}
 use Rattle.snapshot.specs.Asked.{first}
@@ -23,7 +24,7 @@ use Rattle.snapshot.specs.Places.{end_number, bytes_number}
 
 abbrev pub tell : {A : Type 0} → ℕ → A → List ℕ → Read A
 tell zero v rest = Ok (v, rest)
-tell (suc n) v rest = Err (refused (suc n))
+tell (suc n) v rest = Err (record { number = suc n })
 
 -- reading on, of which nothing need be known after a refusal
 pub next-tell : {A B : Type 0} (f : A → List ℕ → Read B) (n m : ℕ) (v : A) (rest : List ℕ) (w : B) (end : List ℕ)
@@ -91,7 +92,7 @@ module _ (xs : List ℕ) (base : ℕ) where
       q = base + (a + n)
 
       by : (b : Bool) → ltb (length xs) q ≡ b
-          → cond (ltb (length xs - p) n) (Err (refused 9)) (Ok (word n xs p, drop q xs)) ≡ tell (cond b 9 0) (word n xs p) (drop q xs)
+          → cond (ltb (length xs - p) n) (Err (refused EndsEarly)) (Ok (word n xs p, drop q xs)) ≡ tell (cond b 9 0) (word n xs p) (drop q xs)
       by true e = let l = ltb-true (length xs) q e in rw (lt-ltb (length xs - p) n (omega arith))
       by false e = let l = ltb-false (length xs) q e in rw (le-ltb (length xs - p) n (omega arith))
 
@@ -101,7 +102,7 @@ module _ {xs : List ℕ} {base : ℕ} where
   unfolding only
   only-reads ok {n = n} {v = v} {c = c} h = record { told = rw h.told (next-tell _ n _ v _ v _ (λ e. by (ok v))) }
     where
-      by : (b : Bool) → cond b (Ok (v, drop (base + c) xs)) (Err (refused 10)) ≡ tell (cond b 0 10) v (drop (base + c) xs)
+      by : (b : Bool) → cond b (Ok (v, drop (base + c) xs)) (Err (refused Field)) ≡ tell (cond b 0 10) v (drop (base + c) xs)
       by true = refl
       by false = refl
 

@@ -3,6 +3,7 @@
 -- Assumes nothing.
 use Rattle.std.specs.Prelude.{ℕ, zero, suc, Bool, true, not, ◌&&◌, List, [], ◌∷◌, leb, ltb, length, Option, Some, None}
 use Rattle.std.proofs.lemmas.List.Edits.{sets}
+use Rattle.refusal.specs.declared.Refusal.TheVariants as refused
 use Rattle.time.specs.declared.Time.{Time}
 use Rattle.time.specs.Raw.{raw}
 use Rattle.cell.specs.Cell.{page_bytes}
@@ -37,7 +38,7 @@ valid t s = valid_but_erase t s && erase_valid s
 -- It skips 6, and in 3 what it tests itself.
 unfoldable pub valid_refusal : List ℕ → Time → ℕ
 valid_refusal bytes t =
-    first_given (check 2 (record_misfits bytes) ∷ check 3 (not (legible (rows_in bytes))) ∷ check 5 (last_second t) ∷ [])
+    first_given (check refused.Memory (record_misfits bytes) ∷ check refused.Record (not (legible (rows_in bytes))) ∷ check refused.LastSecond (last_second t) ∷ [])
 
 unfoldable pub valid_answer : List ℕ → Time → ℕ
 valid_answer bytes t = flag_byte (valid t (decoded bytes))
@@ -47,7 +48,7 @@ valid_answer bytes t = flag_byte (valid t (decoded bytes))
 -- 8: output too short
 unfoldable pub write_refusal : ℕ → Memory → ℕ
 write_refusal room m =
-    first_given (check 2 (misfits m) ∷ check 3 (refused3 m.bytes) ∷ check 8 (ltb room (length (snapshot_of (chip_in m)))) ∷ [])
+    first_given (check refused.Memory (misfits m) ∷ check refused.Record (refused3 m.bytes) ∷ check refused.Output (ltb room (length (snapshot_of (chip_in m)))) ∷ [])
 
 -- output bytes past the answer stay
 abbrev pub written_out : ℕ → Memory → List ℕ → List ℕ
@@ -64,10 +65,10 @@ first (suc k) n = suc k
 -- 9 and 10 by the first offending field in reading order; 11, bytes left over; 12, `validate` says no.
 abbrev pub judged : Time → Read Contents → ℕ
 judged t (Err r) = r.number
-judged t (Ok (v, rest)) = first_given (check 11 (ltb 0 (length rest)) ∷ check 12 (not (valid t (flash_in v))) ∷ [])
+judged t (Ok (v, rest)) = first_given (check refused.LeftOver (ltb 0 (length rest)) ∷ check refused.Invalid (not (valid t (flash_in v))) ∷ [])
 
 unfoldable pub read_refusal : Time → List ℕ → Memory → ℕ
-read_refusal t bytes m = first (first_given (check 2 (misfits m) ∷ check 5 (last_second t) ∷ [])) (judged t (snapshot.read bytes))
+read_refusal t bytes m = first (first_given (check refused.Memory (misfits m) ∷ check refused.LastSecond (last_second t) ∷ [])) (judged t (snapshot.read bytes))
 
 -- Slots not in use keep their numbers.
 abbrev pub restored : Read Contents → Memory → Memory

@@ -3,6 +3,8 @@
 -- Assumes nothing.
 use Rattle.std.specs.Prelude.{ℕ, ◌*◌, ◌<◌, ◌≤◌, ◌≡◌, true, false, List, ltb, length, take}
 use Rattle.std.proofs.lemmas.List.Edits.{sets}
+use Rattle.refusal.specs.declared.Refusal.TheVariants as refused
+use Rattle.refusal.specs.Refusal.{number}
 use Rattle.time.specs.declared.Time.{Time}
 use Rattle.cell.specs.Cell.{at, FULL, page_cells}
 use Rattle.settle.specs.Pages.{opened}
@@ -51,7 +53,7 @@ pub record Snapshots : Type 0 where
       × (memory_read 0 (snapshot_of (chip_in m)) m' ≡ lent m.bytes m.array (sets m'.charges 0 (take (in_use m) m.charges)))
   -- with erase 64 or more it is refused by 12
   pub erase_refused : (m m' : Memory) (t : Time) → Whole m → misfits m' ≡ false → last_second t ≡ false
-      → ltb (decoded m.bytes).registers.erase 64 ≡ false → read_refusal t (snapshot_of (chip_in m)) m' ≡ 12
+      → ltb (decoded m.bytes).registers.erase 64 ≡ false → read_refusal t (snapshot_of (chip_in m)) m' ≡ number refused.Invalid
   -- what is read and accepted writes back the same bytes, and is whole
   pub same : (bytes : List ℕ) (m : Memory) (t : Time) → Bytes bytes → read_refusal t bytes m ≡ 0
       → (snapshot_of (chip_in (memory_read 0 bytes m)) ≡ bytes) × Whole (memory_read 0 bytes m)

@@ -6,6 +6,8 @@ use Rattle.std.specs.Prelude.{ℕ, zero, suc, ◌+◌, ◌-◌, ◌*◌, ◌/◌
 use Rattle.std.proofs.lemmas.List.Edits.{sets}
 use Rattle.time.specs.declared.Time.{Time}
 use Rattle.control.specs.declared.PendingSense.{PendingSense}
+use Rattle.refusal.specs.declared.Refusal.TheVariants as refused
+use Rattle.refusal.specs.Refusal.{number}
 use Rattle.cell.specs.Cell.{at, FULL, page_bytes, page_cells, pages, array_bytes}
 use Rattle.registers.specs.declared.Registers.{Registers}
 use Rattle.flash.specs.declared.Flash.{Flash}
@@ -38,7 +40,7 @@ count_in xs = word 4 xs count_place
 
 -- a charge
 unfoldable pub cell_number : List ℕ → ℕ → ℕ
-cell_number xs place = cond (ltb (length xs) (place + 8)) 9 (cond (leb (word 8 xs place) FULL) 0 10)
+cell_number xs place = cond (ltb (length xs) (place + 8)) (number refused.EndsEarly) (cond (leb (word 8 xs place) FULL) 0 (number refused.Field))
 
 -- n charges in a row
 unfoldable pub cells_number : ℕ → List ℕ → ℕ → ℕ
@@ -48,8 +50,8 @@ cells_number (suc n) xs place = first (cell_number xs place) (cells_number n xs 
 -- the address of a charge page, where those before it are in a page index
 unfoldable pub address_number : List ℕ → List ℕ → ℕ → ℕ
 address_number index xs place =
-    cond (ltb (length xs) (place + 2)) 9
-    (cond (placed (word 2 xs place) page_bytes && eqb (at index (word 2 xs place / page_bytes)) 0) 0 10)
+    cond (ltb (length xs) (place + 2)) (number refused.EndsEarly)
+    (cond (placed (word 2 xs place) page_bytes && eqb (at index (word 2 xs place / page_bytes)) 0) 0 (number refused.Field))
 
 -- the page index with one page more
 unfoldable pub with_page : List ℕ → ℕ → List ℕ → ℕ → List ℕ
@@ -68,13 +70,13 @@ pages_index (suc n) s index xs place = pages_index n (suc s) (with_page index s 
 
 -- 9 where bytes before a place are not there
 abbrev pub end_number : List ℕ → ℕ → ℕ
-end_number xs place = cond (ltb (length xs) place) 9 0
+end_number xs place = cond (ltb (length xs) place) (number refused.EndsEarly) 0
 
 -- single bytes that have limits
 unfoldable pub bytes_number : List ℕ → List ℕ → ℕ → ℕ
 bytes_number [] xs place = 0
 bytes_number (most ∷ limits) xs place =
-    cond (leb (length xs) place) 9 (cond (leb (at xs place) most) (bytes_number limits xs (suc place)) 10)
+    cond (leb (length xs) place) (number refused.EndsEarly) (cond (leb (at xs place) most) (bytes_number limits xs (suc place)) (number refused.Field))
 
 -- control, error, erase, enabled, power_down_disabled; supply, oscillator, mode, module; the option byte
 abbrev pub control_limits : List ℕ
@@ -100,7 +102,7 @@ state_number xs place =
 
 -- the array and the count
 unfoldable pub count_number : List ℕ → ℕ
-count_number xs = cond (ltb (length xs) pages_place) 9 (cond (leb (count_in xs) pages) 0 10)
+count_number xs = cond (ltb (length xs) pages_place) (number refused.EndsEarly) (cond (leb (count_in xs) pages) 0 (number refused.Field))
 
 unfoldable pub scan_number : List ℕ → ℕ
 scan_number xs =
@@ -163,7 +165,7 @@ flash_read xs = flash_at xs (state_place xs) (pages_index (count_in xs) 0 (no_pa
 
 unfoldable pub place_judged : Time → List ℕ → ℕ
 place_judged t xs =
-    first_given (check 11 (ltb (state_place xs + state_length xs (state_place xs)) (length xs)) ∷ check 12 (not (valid t (flash_read xs))) ∷ [])
+    first_given (check refused.LeftOver (ltb (state_place xs + state_length xs (state_place xs)) (length xs)) ∷ check refused.Invalid (not (valid t (flash_read xs))) ∷ [])
 
 abbrev pub place_restored : List ℕ → Memory → Memory
 place_restored xs m =

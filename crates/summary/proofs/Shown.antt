@@ -1,7 +1,7 @@
 -- A look that writes to an output of its answer's length: its refusal is that of the look alone, and where nothing is refused the output
 -- holds the answer alone. So a report of what looks showed is the report on the chip. Assumes nothing.
 use mathlib.Core.Path.{◌≡◌, sym, ◌∙◌}
-use mathlib.Core.Bool.{Bool, false}
+use mathlib.Core.Bool.{Bool}
 use mathlib.Core.List.{List}
 use Prim.Native.Nat.{ℕ}
 use Rattle.std.specs.Prelude.{Option, Ok}
@@ -37,14 +37,14 @@ module _ (t : Time) (m : Memory) where
   -- ---- the image
 
   pub image-shows : (out left : List ℕ) (n : ℕ) → length out ≡ 49152 → n ≡ image_refusal t (length out) m → left ≡ image_left n t m out
-      → Shows (look_refusal false t m) (image_at t (chip_in m)) n left
+      → Shows (look_refusal 0 t m) (image_at t (chip_in m)) n left
   image-shows out left n l e d =
       let f = e ∙ image-refusal t m (length out) l in
       record { number_is = f; answer_is = λ z. d ∙ image-seen t m out l n f (f ∙ z) }
 
   -- ---- the marks
 
-  pub marks-refusal : (room : ℕ) → room ≡ 384 → output_refusal 384 t room m ≡ look_refusal false t m
+  pub marks-refusal : (room : ℕ) → room ≡ 384 → output_refusal 384 t room m ≡ look_refusal 0 t m
   marks-refusal room l = roomy 384 room t m (omega arith)
 
   pub marks-shown : (out left : List ℕ) → length out ≡ 384 → left ≡ written (mark_at t (chip_in m)) 384 out → left ≡ marks_at t (chip_in m)
@@ -60,10 +60,10 @@ module _ (t : Time) (m : Memory) where
 
   -- of looks that are not refused, from what they showed
   pub reports-shown : (c : Counts) (j : Judged) (map : Bool) (image : List ℕ) (marks : Option (List ℕ)) (out left : List ℕ) (end : ℕ)
-      → Shows (look_refusal false t m) (image_at t (chip_in m)) 0 image
+      → Shows (look_refusal 0 t m) (image_at t (chip_in m)) 0 image
       → marks ≡ marks_for map t (chip_in m)
       → Puts (summary_text c image marks j) 0 out left end
-      → Reports (look_refusal false t m) (report_text c j map t (chip_in m)) out left (Ok end)
+      → Reports (look_refusal 0 t m) (report_text c j map t (chip_in m)) out left (Ok end)
   reports-shown c j map image marks out left end seen marked p =
       let z = sym seen.number_is in
       (z, rw (text-shown c image map marks j (seen.answer_is z) marked) at p)

@@ -68,14 +68,14 @@ pub fn summary(
 
 // The image at a time, in an array of its length.
 fn image_at(image: &mut [u8; FLASH_SIZE], lent: Lent, time: Time) -> Result<(), Refusal>
-    ensures { Shows (look_refusal false time (memory_in lent.entry)) (image_at time (chip_in (memory_in lent.entry))) (told result) image.new }
+    ensures { Shows (look_refusal 0 time (memory_in lent.entry)) (image_at time (chip_in (memory_in lent.entry))) (told result) image.new }
 {
     see_image(lent, time, image)
 }
 
 // The marks of all pages at a time, where the map is asked for.
 fn marks_for(map: bool, lent: Lent, time: Time) -> Result<Option<[u8; PAGES]>, Refusal>
-    ensures { MatchResult result (λ marks. marks ≡ marks_for map time (chip_in (memory_in lent.entry))) (λ refusal. number refusal ≡ look_refusal false time (memory_in lent.entry)) }
+    ensures { MatchResult result (λ marks. marks ≡ marks_for map time (chip_in (memory_in lent.entry))) (λ refusal. number refusal ≡ look_refusal 0 time (memory_in lent.entry)) }
 {
     if !map {
         return Ok(None);
@@ -94,7 +94,7 @@ pub fn report(
     lent: Lent,
     time: Time,
 ) -> Result<usize, Refusal>
-    ensures { Reports (look_refusal false time (memory_in lent.entry)) (report_text counts judged map time (chip_in (memory_in lent.entry))) out.old out.new result }
+    ensures { Reports (look_refusal 0 time (memory_in lent.entry)) (report_text counts judged map time (chip_in (memory_in lent.entry))) out.old out.new result }
 {
     let mut image = [0u8; FLASH_SIZE];
     image_at(&mut image, lent, time)?;

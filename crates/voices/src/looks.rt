@@ -21,7 +21,7 @@ use verdict::legible::legible_pages;
 
 // How many pages are legible.
 fn see_pages(lent: Lent, time: Time) -> Result<u64, Refusal>
-    ensures { Answers (look_refusal false time (memory_in lent.entry)) (legible_in (image_at time (chip_in (memory_in lent.entry))) 0 pages) result }
+    ensures { Answers (look_refusal 0 time (memory_in lent.entry)) (legible_in (image_at time (chip_in (memory_in lent.entry))) 0 pages) result }
 {
     let mut image = [0u8; FLASH_SIZE];
     see_image(lent, time, &mut image)?;
