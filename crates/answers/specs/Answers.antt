@@ -2,6 +2,8 @@
 -- Assumes nothing.
 use Rattle.std.specs.Prelude.{ℕ, Bool, List, [], ◌∷◌, eqb}
 use Rattle.cell.specs.Cell.{FULL, pages}
+use Rattle.flash.specs.declared.PageState.{PageState}
+use Rattle.flash.specs.declared.PageState.TheVariants.{Blank, Legible}
 use Rattle.text.specs.Text.{said, either}
 
 -- the answer of a word read or a byte read
@@ -9,10 +11,10 @@ abbrev pub answer_said : ℕ → ℕ → ℕ → Bool → List ℕ
 answer_said line address value isWord =
     either isWord "line %: the word at $ is $\n" "line %: the read of $ gives &\n" (line ∷ address ∷ value ∷ [])
 
--- a look at a byte, and whether its page is blank
-abbrev pub byte_said : ℕ → ℕ → ℕ → Bool → List ℕ
-byte_said line address value blank =
-    either blank "line %: $ reads &, its page is blank\n" "line %: $ reads &, its page is legible\n" (line ∷ address ∷ value ∷ [])
+-- a look at a byte, and the state of its page
+abbrev pub byte_said : ℕ → ℕ → ℕ → PageState → List ℕ
+byte_said line address value Blank = said "line %: $ reads &, its page is blank\n" (line ∷ address ∷ value ∷ [])
+byte_said line address value Legible = said "line %: $ reads &, its page is legible\n" (line ∷ address ∷ value ∷ [])
 
 -- a look at a cell: its charge, of the most that it can hold
 abbrev pub cell_said : ℕ → ℕ → ℕ → ℕ → List ℕ

@@ -7,6 +7,7 @@ ghost use Rattle.text.specs.Says.{Says};
 ghost use Rattle.answers.specs.Answers.{answer_said, byte_said, cell_said, whole_said};
 
 use cell::{FULL, PAGES};
+use flash::PageState;
 use text::Text;
 
 // The answer of a byte read or a word read.
@@ -21,14 +22,13 @@ pub fn answered(text: &mut Text, line_number: u64, address: u64, value: u64, is_
     text.say(template, &[line_number, address, value]);
 }
 
-// A look at a byte, and whether its page is blank.
-pub fn looked_byte(text: &mut Text, line_number: u64, address: u64, value: u64, blank: bool)
-    ensures { Says (byte_said line_number address value blank) text.old text.new }
+// A look at a byte, and the state of its page.
+pub fn looked_byte(text: &mut Text, line_number: u64, address: u64, value: u64, state: PageState)
+    ensures { Says (byte_said line_number address value state) text.old text.new }
 {
-    let template: &[u8] = if blank {
-        b"line %: $ reads &, its page is blank\n"
-    } else {
-        b"line %: $ reads &, its page is legible\n"
+    let template: &[u8] = match state {
+        PageState::Blank => b"line %: $ reads &, its page is blank\n",
+        PageState::Legible => b"line %: $ reads &, its page is legible\n",
     };
     text.say(template, &[line_number, address, value]);
 }

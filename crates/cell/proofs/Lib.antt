@@ -6,4 +6,3 @@ pub mod Slot
 pub mod Rule
 pub mod Sensed
 pub mod Ceiling
-pub mod Chunks

@@ -10,7 +10,7 @@ use Rattle.lent.specs.Asked.{Outcome, outcome}
 use Rattle.grammar.specs.declared.Line.{Line}
 use Rattle.grammar.specs.declared.Line.TheVariants as line
 use Rattle.lent.specs.declared.Asking.{Asking}
-use Rattle.verdict.specs.Pulses.{raised}
+use Rattle.settle.specs.Tallies.{raised}
 use Rattle.course.specs.declared.Complaint.{Complaint}
 use Rattle.course.specs.declared.Complaint.TheVariants as complaint
 use Rattle.course.specs.declared.Manner.{Manner}

@@ -23,7 +23,7 @@ use Rattle.history.specs.History.{calls_of}
 use Rattle.history.specs.Claim.{InTypes}
 use Rattle.history.proofs.Range.{line-in}
 use Rattle.history.proofs.Kept.{line-typed}
-use Rattle.verdict.specs.Pulses.{raised}
+use Rattle.settle.specs.Tallies.{raised}
 use Rattle.course.specs.declared.Complaint.TheVariants as complaint
 use Rattle.course.specs.declared.Manner.{Manner}
 use Rattle.course.specs.Desk.{Desk, made, refused, noted, called, looked_refusal, looked_said, seen, left_out, looked, line_done}

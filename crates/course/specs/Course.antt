@@ -1,8 +1,8 @@
 -- What a run counts. Assumes nothing.
 use Rattle.std.specs.Prelude.{ℕ, Bool, false, not, List, [], ◌∷◌, Some, None}
 use Rattle.time.specs.declared.Time.{Time}
-use Rattle.verdict.specs.declared.Tally.{Tally}
-use Rattle.verdict.specs.Pulses.{raised}
+use Rattle.settle.specs.declared.tally.Tally.{Tally}
+use Rattle.settle.specs.Tallies.{raised}
 use Rattle.course.specs.declared.Course.{Course}
 use Rattle.course.specs.declared.Complaint.{Complaint}
 use Rattle.course.specs.declared.Complaint.TheVariants.{Refused, Unseen, Wrong}

@@ -1,10 +1,12 @@
 -- What a line of a history does: a call is made, a look is taken, or the line is complained of. The bytes said are those of standard
 -- output; complaints are told by what they are about. Assumes nothing.
-use Rattle.std.specs.Prelude.{ℕ, zero, suc, ◌+◌, ◌*◌, ◌≡◌, Bool, true, false, cond, List, [], ◌∷◌, ◌++◌, eqb, Option, option_to_list}
+use Rattle.std.specs.Prelude.{ℕ, zero, suc, ◌+◌, ◌*◌, ◌/◌, ◌≡◌, Bool, true, false, cond, List, [], ◌∷◌, ◌++◌, eqb, Option, option_to_list}
 use Rattle.refusal.specs.Refusal.{numbered}
 use Rattle.time.specs.declared.Time.{Time}
-use Rattle.cell.specs.Cell.{pages, at}
-use Rattle.flash.specs.Looking.{charge_at, peek_at, blank_at, image_at}
+use Rattle.cell.specs.Cell.{page_bytes, pages, at}
+use Rattle.settle.specs.Tallies.{tallied}
+use Rattle.flash.specs.declared.PageState.TheVariants.{Legible}
+use Rattle.flash.specs.Looking.{charge_at, peek_at, page_state, page_states}
 use Rattle.lent.specs.declared.Request.{Request}
 use Rattle.lent.specs.declared.Request.TheVariants.{WriteRegister, Write8, Read8, Read16, Protect, Reset, PowerOff, Environment}
 use Rattle.lent.specs.Memory.{Memory, chip_in}
@@ -20,8 +22,7 @@ use Rattle.listing.specs.Calls.{asking_at}
 use Rattle.text.specs.Puts.{Puts}
 use Rattle.answers.specs.Answers.{answer_said, byte_said, cell_said, whole_said}
 use Rattle.sayings.specs.Sayings.{event_said}
-use Rattle.verdict.specs.Legible.{legible_in}
-use Rattle.verdict.specs.Pulses.{tallied}
+use Rattle.verdict.specs.States.{count_in}
 use Rattle.course.specs.declared.Complaint.{Complaint}
 use Rattle.course.specs.declared.Complaint.TheVariants.{Refused, Unseen, Wrong}
 use Rattle.course.specs.declared.Course.{Course}
@@ -105,10 +106,10 @@ looked_refusal Whole t m = look_refusal 0 t m
 looked_refusal (Byte a) t m = peek_refusal a t m
 looked_refusal (Cell a bit) t m = charge_refusal a bit t m
 
--- what is seen: how many pages are legible, a byte and whether its page is blank, or a cell's charge
+-- what is seen: how many pages are legible, a byte and the state of its page, or a cell's charge
 abbrev pub looked_said : ℕ → Looking → Time → Memory → List ℕ
-looked_said n Whole t m = whole_said n (legible_in (image_at t (chip_in m)) 0 pages)
-looked_said n (Byte a) t m = byte_said n a (peek_at t (chip_in m) a) (blank_at t (chip_in m) a)
+looked_said n Whole t m = whole_said n (count_in Legible (page_states t (chip_in m)) 0 pages)
+looked_said n (Byte a) t m = byte_said n a (peek_at t (chip_in m) a) (page_state t (chip_in m) (a / page_bytes))
 looked_said n (Cell a bit) t m = cell_said n a bit (charge_at t (chip_in m) (8 * a + bit))
 
 abbrev pub seen : List ℕ → Desk → Desk

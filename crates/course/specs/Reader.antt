@@ -8,7 +8,7 @@ use Rattle.grammar.specs.declared.Line.TheVariants.{Wrong}
 use Rattle.grammar.specs.Grammar.{line_of}
 use Rattle.lent.specs.declared.Asking.{Asking}
 use Rattle.history.specs.History.{calls_of, time_after}
-use Rattle.verdict.specs.Pulses.{raised}
+use Rattle.settle.specs.Tallies.{raised}
 use Rattle.course.specs.Bounds.{longest}
 use Rattle.course.specs.declared.Manner.{Manner}
 use Rattle.course.specs.declared.Place.{Place}

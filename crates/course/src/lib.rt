@@ -10,8 +10,9 @@ ghost use Rattle.course.specs.Course.{with_calls, quiet, complained, begun_at};
 use fields::Fault;
 use grammar::Line;
 use refusal::Refusal;
+use settle::tally::Tally;
 use time::Time;
-use verdict::{Counts, Tally};
+use verdict::Counts;
 
 pub mod memory;
 

@@ -5,11 +5,11 @@ use mathlib.Core.Bool.{Bool, true, false, cond}
 use mathlib.Core.List.{List, [], ◌∷◌}
 use Rattle.std.specs.Prelude.{Result, Ok, Err}
 use Prim.Native.Nat.{ℕ, suc, ◌+◌, ◌*◌, ◌^◌, ◌<◌, ◌≤◌}
-use native.Mathlib.Nat.{mul-le-mul_right, suc-mul, mul_assoc, mul_comm, one-mul, mul-one, le_trans, lt_of_lt_of_le, le-mul_of_pos_right, one-le-pow, pow-le-pow_right, pow-suc, pow-zero}
+use native.Mathlib.Nat.{mul-le-mul_right, suc-mul, mul_assoc, mul_comm, one-mul, mul-one, pow-suc, pow-zero}
 use native.Mathlib.Omega.{arith}
-use lib.Dec.{ltb, eqb, lit<, lit≤}
+use lib.Dec.{ltb, eqb, lit<}
 use lib.ListN.{length}
-use borrow.Author.Tests.{ltb-true, ltb-false, lt-ltb, le-ltb, eqb-true}
+use borrow.Author.Tests.{ltb-true, lt-ltb, le-ltb, eqb-true}
 use Rattle.digits.specs.Digits.{digit_of, number_from, number_in, hex_in}
 use Rattle.digits.specs.declared.NoNumber.{NoNumber}
 use Rattle.digits.specs.declared.NoNumber.TheVariants.{TooLarge, NotDigits}
@@ -51,29 +51,6 @@ from-below base w n m (b ∷ bs) h e = by (ltb (digit_of b) base) (ltb (n * base
     by true false d e rest = let z : ◌≡◌ {A = ℕ} 0 1 = cc in omega arith
     by false q d e rest = let z : ◌≡◌ {A = ℕ} 0 1 = cc in omega arith
 
--- and that none of them passes 2^64 where so many digits can't
-from-fits : (base w n : ℕ) (bs : List ℕ) → n < w → w * base ^ length bs ≤ 2 ^ 64 → number_from base n bs ≡ Err TooLarge → ⊥
-unfolding number_from
-from-fits base w n [] h k e = let z : ◌≡◌ {A = ℕ} 0 1 = cc in omega arith
-from-fits base w n (b ∷ bs) h k e = by (ltb (digit_of b) base) (ltb (n * base + digit_of b) (2 ^ 64)) refl refl e (from-fits base (w * base) (n * base + digit_of b) bs)
-  where
-    room : w * base * base ^ length bs ≤ 2 ^ 64
-    room = rw (regrouped base w (length bs)) k
-
-    by :
-        (p q : Bool)
-        → ltb (digit_of b) base ≡ p
-        → ltb (n * base + digit_of b) (2 ^ 64) ≡ q
-        → cond p (cond q (number_from base (n * base + digit_of b) bs) (Err TooLarge)) (Err NotDigits) ≡ Err TooLarge
-        → (n * base + digit_of b < w * base → w * base * base ^ length bs ≤ 2 ^ 64 → number_from base (n * base + digit_of b) bs ≡ Err TooLarge → ⊥)
-        → ⊥
-    by true true d l e rest = rest (grown base w n (digit_of b) h (ltb-true _ _ d)) room e
-    by true false d l e rest =
-        let next : n * base + digit_of b < w * base = grown base w n (digit_of b) h (ltb-true _ _ d) in
-        let one : 1 ≤ base ^ length bs = one-le-pow (length bs) base (omega (arith, ltb-true (digit_of b) base d)) in
-        omega (arith, ltb-false (n * base + digit_of b) (2 ^ 64) l, le-mul_of_pos_right (w * base) one, room)
-    by false q d l e rest = let z : ◌≡◌ {A = ℕ} 0 1 = cc in omega arith
-
 -- a number of 64 bits stays one
 from-64 : (base n m : ℕ) (bs : List ℕ) → n < 2 ^ 64 → number_from base n bs ≡ Ok m → m < 2 ^ 64
 unfolding number_from
@@ -102,12 +79,6 @@ module _ (base n : ℕ) where
   number-64 [] e = let z : ◌≡◌ {A = ℕ} 0 1 = cc in omega arith
   number-64 (b ∷ bs) e = from-64 base 0 n (b ∷ bs) (lit< tt) e
 
--- so few digits are never too large
-pub number_fits : (base : ℕ) (bs : List ℕ) → base ^ length bs ≤ 2 ^ 64 → number_in base bs ≡ Err TooLarge → ⊥
-unfolding number_in
-number_fits base [] h e = let z : ◌≡◌ {A = ℕ} 0 1 = cc in omega arith
-number_fits base (b ∷ bs) h e = from-fits base 1 0 (b ∷ bs) (lit< tt) (rw one-mul h) e
-
 -- of exactly k hexadecimal digits
 module _ (k : ℕ) (bs : List ℕ) where
   hex-cases : {r : Result ℕ NoNumber} → (Err NotDigits ≡ r → ⊥) → hex_in k bs ≡ r → (length bs ≡ k) × (number_in 16 bs ≡ r)
@@ -122,16 +93,3 @@ module _ (k : ℕ) (bs : List ℕ) where
   hex-below n e =
       let is = hex-cases (λ z. let z : ◌≡◌ {A = ℕ} 0 1 = cc in omega arith) e in
       rw is.0 at (number-below 16 n bs is.1)
-
-  pub hex-fits : k ≤ 16 → hex_in k bs ≡ Err TooLarge → ⊥
-  hex-fits h e =
-      let is = hex-cases (λ z. let z : ◌≡◌ {A = ℕ} 0 1 = cc in omega arith) e in
-      number_fits 16 bs (rw is.0 (pow-le-pow_right (lit< tt) h)) is.1
-
--- of at most six decimal digits
-module _ (bs : List ℕ) (few : length bs ≤ 6) where
-  pub six-decimals-below : (n : ℕ) → number_in 10 bs ≡ Ok n → n < 1000000
-  six-decimals-below n e = lt_of_lt_of_le (number-below 10 n bs e) (pow-le-pow_right (lit< tt) few)
-
-  pub six-decimals-fit : number_in 10 bs ≡ Err TooLarge → ⊥
-  six-decimals-fit = number_fits 10 bs (le_trans (pow-le-pow_right (lit< tt) few) (lit≤ tt))

@@ -18,8 +18,8 @@ use Rattle.registers.specs.Pulses.{pulse}
 use Rattle.registers.specs.Calls.{settles, next}
 use Rattle.settle.specs.Views.{cells_of}
 use Rattle.settle.specs.Settling.{range_bytes, changes, settled_by, ends_of, end_words, sensed_by, Left}
-use Rattle.flash.specs.Chip.{Chip, chip, registers, cells, settled_at, step, step_if, sensed_after, settled_answer, stored_answer, answer_limit, Fit, Performed}
-use Rattle.settle.proofs.Stored.{sets-append}
+use Rattle.flash.specs.Chip.{Chip, registers, cells, settled_at, step, step_if, sensed_after, settled_answer, stored_answer, answer_limit, Fit, Performed, chip}
+use Rattle.lists.proofs.Stores.{sets-append}
 use Rattle.flash.proofs.Room.{changes-room}
 use Rattle.registers.specs.declared.Pulse.{Pulse}
 use Rattle.flash.proofs.Answers.{settled-value, stored-value}

@@ -1,12 +1,15 @@
 -- Looking at a time: answers as a settle then would leave array and charges, and keeps nothing. Document 01, "Cells and sensing" and
 -- "Verify sensing, looking, snapshot".
 -- Assumes nothing.
-use Rattle.std.specs.Prelude.{ℕ, zero, suc, ◌*◌, ◌/◌, Bool, true, ◌&&◌, List, eqb}
+use Rattle.std.specs.Prelude.{ℕ, zero, suc, ◌*◌, ◌/◌, Bool, true, cond, ◌&&◌, List, map, eqb}
+use Rattle.std.specs.List.{range_with_len}
 use Rattle.time.specs.declared.Time.{Time}
-use Rattle.cell.specs.Cell.{page_bytes, at}
+use Rattle.cell.specs.Cell.{page_bytes, pages, at}
 use Rattle.registers.specs.declared.Pulse.{Pulse}
 use Rattle.settle.specs.Pages.{cell_at}
 use Rattle.settle.specs.Settling.{ruled}
+use Rattle.flash.specs.declared.PageState.{PageState}
+use Rattle.flash.specs.declared.PageState.TheVariants.{Blank, Legible}
 use Rattle.flash.specs.Chip.{Chip, settled_at}
 
 -- the charge q of cell i after an exposure of l, where one of 0 leaves any charge as it is
@@ -32,3 +35,11 @@ all_blank (suc n) a image = eqb (at image a) 0xFF && all_blank n (suc a) image
 -- A page is blank if all 128 bytes of the image read FF. The report takes any address in the page.
 unfoldable pub blank_at : Time → Chip → ℕ → Bool
 blank_at now k a = all_blank page_bytes (a / page_bytes * page_bytes) (image_at now k)
+
+-- the state of page p: blank as the report has it, or legible
+unfoldable pub page_state : Time → Chip → ℕ → PageState
+page_state now k p = cond (blank_at now k (p * page_bytes)) Blank Legible
+
+-- the states of all pages
+unfoldable pub page_states : Time → Chip → List PageState
+page_states now k = map (page_state now k) (range_with_len 0 pages)

@@ -26,3 +26,10 @@ pub struct Answer {
     pub value: u16,
     pub count: usize,
 }
+
+// What can be read in a page: nothing, since it is blank, or something legible.
+#[derive(Clone, Copy, Debug, PartialEq, Eq)]
+pub enum PageState {
+    Blank,
+    Legible,
+}

@@ -11,7 +11,7 @@ use lib.Dec.{ltb}
 use lib.ListN.{length, take, drop, length-append, length-take}
 use lib.Seq.{sets, sets-eq, length-sets, get_or-append-add, take_at}
 use Rattle.cell.specs.Cell.{at}
-use Rattle.settle.proofs.Stored.{sets-append}
+use Rattle.lists.proofs.Stores.{sets-append}
 use Rattle.lent.specs.Memory.{Memory}
 use Rattle.lent.specs.Asked.{Outcome}
 use Rattle.ledger.specs.Lists.{asked}

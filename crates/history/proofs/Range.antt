@@ -8,7 +8,7 @@ use mathlib.Core.Path.{◌≡◌, refl}
 use native.Mathlib.Omega.{arith}
 use lib.Dec.{ltb}
 use Rattle.time.specs.declared.Time.{Time}
-use Rattle.time.proofs.Bools.{either}
+use Rattle.lists.proofs.Bools.{either}
 use Rattle.layout.specs.Whole.{TimeFits}
 use Rattle.words.specs.declared.reason.Reason.{Reason}
 use Rattle.words.specs.declared.reason.Reason.TheVariants.{NoMode, NoRegister, NoAddress, NoByte}

@@ -8,7 +8,7 @@ use native.Mathlib.Omega.{arith}
 use borrow.Author.Tests.{ltb-true}
 use lib.Pow.{shr_lt}
 use lib.ListN.{set, replicate, length-set, length-replicate}
-use Rattle.time.proofs.Bools.{either}
+use Rattle.lists.proofs.Bools.{either}
 use Rattle.time.specs.declared.Time.{Time}
 use Rattle.time.specs.Raw.{instant, plus, micros, after, BeforeLastSecond}
 use Rattle.time.proofs.Laws.{micros-short, sum_fits}

@@ -7,7 +7,7 @@ use Prim.Native.Nat.{ℕ, ◌*◌, ◌/◌, ◌%◌, ◌<◌}
 use native.Mathlib.Omega.{arith}
 use lib.Dec.{ltb, leb, eqb}
 use lib.ListN.{set}
-use Rattle.time.proofs.Bools.{either}
+use Rattle.lists.proofs.Bools.{either}
 use Rattle.time.specs.declared.Time.{Time}
 use Rattle.time.specs.Raw.{raw, later, after}
 use Rattle.control.specs.declared.Mode.{Mode}

@@ -1,6 +1,5 @@
--- Event words: a word's parts read back while its address and value have 16 bits; the byte events of a change, applied, give the
--- array after it; and which events among a call's are byte events and which are ends. A list of words of one sort is told once,
--- by `Sort`, and each law of it holds of changes or of ends. Assumes nothing.
+-- Event words: the byte events of a change, applied, give the array after it; and which events among a call's are byte events and which
+-- are ends. A list of words of one sort is told once, by `Sort`, and each law of it holds of changes or of ends. Assumes nothing.
 use mathlib.Core.Path.{◌≡◌, refl, sym, ap, ◌∙◌}
 use mathlib.Core.Bool.{Bool, true, false, cond}
 use mathlib.Core.List.{List, [], ◌∷◌, ◌++◌}
@@ -21,22 +20,11 @@ use Rattle.registers.specs.declared.Ending.TheVariants.{Completed, Interrupted}
 use Rattle.registers.specs.Calls.{next, ending, ending_number}
 use Rattle.registers.specs.Pulses.{pulse}
 use Rattle.settle.specs.Settling.{word, change, changes, range_end, same_pulse, end_of, ended, end_words}
-use Rattle.ledger.specs.Words.{kind_in, address_in, value_in, is_byte, applied, bytes_in, ends_in}
+use Rattle.settle.specs.Words.{is_byte}
+use Rattle.settle.proofs.Words.{word-kind, word_address, word_value}
+use Rattle.ledger.specs.Words.{applied, bytes_in, ends_in}
 
 -- ---- the parts of a word
-
-module _ (kind a v : ℕ) (h : a < 2 ^ 16) (k : v < 2 ^ 16) where
-  pub word-kind : kind_in (word kind a v) ≡ kind
-  unfolding word
-  word-kind = omega arith
-
-  pub word_address : address_in (word kind a v) ≡ a
-  unfolding word
-  word_address = omega arith
-
-  pub word_value : value_in (word kind a v) ≡ v
-  unfolding word
-  word_value = omega arith
 
 byte_word : (a v : ℕ) → a < 2 ^ 16 → v < 2 ^ 16 → is_byte (word 1 a v) ≡ true
 byte_word a v h k = eq-eqb _ 1 (word-kind 1 a v h k)

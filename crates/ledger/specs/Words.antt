@@ -1,19 +1,7 @@
--- Reading event words: kind × 2^32 + address × 2^16 + value or length. Document 01, under "Order of checking".
+-- The byte events and the end events among some event words.
 -- Assumes nothing.
-use Rattle.std.specs.Prelude.{ℕ, ◌/◌, ◌%◌, ◌^◌, Bool, cond, List, [], ◌∷◌, eqb, set}
-use Rattle.settle.specs.Settling.{byte_kind}
-
-abbrev pub kind_in : ℕ → ℕ
-kind_in w = w / 2 ^ 32
-
-abbrev pub address_in : ℕ → ℕ
-address_in w = w / 2 ^ 16 % 2 ^ 16
-
-abbrev pub value_in : ℕ → ℕ
-value_in w = w % 2 ^ 16
-
-abbrev pub is_byte : ℕ → Bool
-is_byte w = eqb (kind_in w) byte_kind
+use Rattle.std.specs.Prelude.{ℕ, cond, List, [], ◌∷◌, set}
+use Rattle.settle.specs.Words.{address_in, value_in, is_byte}
 
 -- an array with the byte events among some words applied in order
 unfoldable pub applied : List ℕ → List ℕ → List ℕ

@@ -11,7 +11,7 @@ use Rattle.time.specs.declared.Time.{Time}
 use Rattle.time.specs.Raw.{raw}
 use Rattle.std.specs.Prelude.{None, Some}
 use Rattle.control.specs.Bits.{FENR, SWE, ESU, PSU, E, P, has, low}
-use Rattle.registers.proofs.Laws.{either-way}
+use Rattle.lists.proofs.Bools.{either-way}
 use Rattle.registers.specs.declared.Registers.{Registers}
 use Rattle.registers.specs.declared.Call.TheVariants as call
 use Rattle.registers.specs.Pulses.{program_pulse, erase_pulse, may_pulse, pulse}

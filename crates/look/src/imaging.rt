@@ -32,7 +32,7 @@ fn sensed_after(cells: &CellsRef, exposure: &Exposure, ceilings: &Ceilings, addr
 }
 
 // Whether the 128 stored bytes from `start` on all read FF.
-pub fn stored_blank(array: &[u8], start: usize) -> bool
+fn stored_blank(array: &[u8], start: usize) -> bool
     requires { start + page_bytes ≤ length array.now }
     ensures { result ≡ all_blank page_bytes start array.now }
 {

@@ -3,3 +3,4 @@
 
 pub mod imaging;
 pub mod looking;
+pub mod states;

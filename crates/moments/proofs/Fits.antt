@@ -13,7 +13,7 @@ use Rattle.time.specs.declared.Time.{Time}
 use Rattle.time.specs.declared.Duration.{Duration}
 use Rattle.std.specs.Prelude.{Option, Some, None, Result, Ok, Err}
 use Rattle.time.specs.Raw.{raw, span, instant, duration, micros, plus, added}
-use Rattle.time.proofs.Bools.{either}
+use Rattle.lists.proofs.Bools.{either}
 use Rattle.words.specs.declared.reason.Reason.{Reason}
 use Rattle.words.specs.declared.reason.Reason.TheVariants.{TooManyDecimals}
 use Rattle.digits.specs.Digits.{number_in}

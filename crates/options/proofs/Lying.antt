@@ -7,14 +7,14 @@ use native.Mathlib.Nat.{div-lt_iff_lt-mul}
 use native.Mathlib.Omega.{arith}
 use borrow.Author.Tests.{ltb-true}
 use lib.Dec.{eqb, ltb}
-use Rattle.time.proofs.Bools.{either}
+use Rattle.lists.proofs.Bools.{either}
 use Rattle.cell.specs.Cell.{array_bytes, pages}
 use Rattle.control.specs.Blocks.{erase_range}
 use Rattle.control.specs.declared.Range.{Range}
 use Rattle.digits.specs.Digits.{hex_in}
 use Rattle.digits.specs.declared.NoNumber.{NoNumber}
 use Rattle.std.specs.Prelude.{Option, Some, None, Result, Ok, Err, IfOk, IfSome}
-use Rattle.verdict.specs.Blocks.{pages_touched}
+use Rattle.control.specs.Blocks.{pages_touched}
 use Rattle.options.specs.Arguments.{Word, below, said_of}
 use Rattle.options.specs.Options.{block_in, address_in, pages_asked, range_asked, beginning, accepted, run_of, with_beginning, with_history, whole, ended}
 use Rattle.options.specs.Inside.{PagesLie}

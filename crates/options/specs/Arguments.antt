@@ -10,7 +10,7 @@ use Rattle.cell.specs.Cell.{array_bytes}
 use Rattle.digits.specs.Digits.{hex_in}
 use Rattle.digits.specs.declared.NoNumber.{NoNumber}
 use Rattle.moments.specs.Moments.{moment_of}
-use Rattle.verdict.specs.Blocks.{blocks}
+use Rattle.control.specs.Blocks.{blocks}
 use Rattle.words.specs.Text.{text, named}
 use Rattle.options.specs.declared.Given.{Given}
 use Rattle.options.specs.declared.Parameter.{Parameter}

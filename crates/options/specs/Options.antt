@@ -8,7 +8,7 @@ use Rattle.time.specs.declared.Time.{Time}
 use Rattle.cell.specs.Cell.{pages}
 use Rattle.control.specs.declared.Range.{Range}
 use Rattle.moments.specs.Moments.{moment_of}
-use Rattle.verdict.specs.Blocks.{block_range, pages_touched}
+use Rattle.control.specs.Blocks.{block_range, pages_touched}
 use Rattle.options.specs.Arguments.{Word, block_named, address_named, said_of, given_by}
 use Rattle.options.specs.declared.Asked.{Asked}
 use Rattle.options.specs.declared.Asked.TheVariants.{Help, Run}

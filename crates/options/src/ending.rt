@@ -7,7 +7,7 @@ use crate::values::{address_in, block_in, time_in};
 use crate::{Asked, Beginning, Given, Options, Parameter, Said, Stage, Trouble};
 use cell::PAGES;
 use control::Range;
-use verdict::blocks::{block_range, pages_touched};
+use control::blocks::{block_range, pages_touched};
 
 // The range that is asked for, by a block or by addresses. Each word that is taken stands for a number, as `fits` has told.
 #[tactic(auto, unfolding(crate::specs::Options::range_asked))]

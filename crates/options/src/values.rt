@@ -1,16 +1,16 @@
 // The words of options: which words an option can have, and what they stand for.
 ghost use Rattle.std.specs.Prelude.{◌≡◌, ◌<◌, IfSome};
 ghost use Rattle.cell.specs.Cell.{array_bytes};
-ghost use Rattle.verdict.specs.Blocks.{blocks};
+ghost use Rattle.control.specs.Blocks.{blocks};
 ghost use Rattle.options.specs.Arguments.{number_below, block_named, address_named, fits, complaint};
 ghost use Rattle.options.specs.Options.{time_in, block_in, address_in};
 
 use crate::{Parameter, Trouble};
 use cell::ARRAY_BYTES;
+use control::blocks::BLOCKS;
 use digits::hexadecimal;
 use moments::moment_in;
 use time::Time;
-use verdict::blocks::BLOCKS;
 
 // A hexadecimal number of so many digits, if it lies below a bound.
 fn number_below(bound: u16, digits: usize, word: &[u8]) -> Option<u16>

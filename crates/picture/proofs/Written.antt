@@ -3,7 +3,7 @@
 use mathlib.Core.Path.{◌≡◌, sym, ap, ◌∙◌}
 use mathlib.Core.Bool.{cond}
 use mathlib.Core.List.{List}
-use Prim.Native.Nat.{ℕ, ◌+◌, ◌<◌, ◌≤◌}
+use Prim.Native.Nat.{ℕ, ◌+◌, ◌<◌}
 use native.Mathlib.Omega.{arith}
 use native.Mathlib.Decide.{ℕ_discrete, dec_lt}
 use borrow.Author.Tests.{lt-ltb, le-ltb}
@@ -23,12 +23,9 @@ module _ (g : ℕ → ℕ) where
   unfolding written
   at-written n out i h = get_or-mapi _ out i h
 
-  -- each byte written, and each past them
+  -- each byte written
   pub written_at : (n : ℕ) (out : List ℕ) (i : ℕ) → i < length out → i < n → at (written g n out) i ≡ g i
   written_at n out i h k = at-written n out i h ∙ rw (lt-ltb i n k)
-
-  pub written-past : (n : ℕ) (out : List ℕ) (i : ℕ) → i < length out → n ≤ i → at (written g n out) i ≡ at out i
-  written-past n out i h k = at-written n out i h ∙ rw (le-ltb i n k)
 
   pub written_none : (out : List ℕ) → out ≡ written g 0 out
   written_none out =

@@ -1,5 +1,5 @@
-// What a look shows of all pages or all cells at once, over lent memory: the checks of a look, then that the output has room, then the
-// answer. Nothing is kept.
+// What a look shows of all pages or all cells at once: the map's marks of an opened state, and the picture's shades over lent memory, by the
+// checks of a look, then that the output has room, then the answer. Nothing is kept.
 #![tactic(auto)]
 
 pub mod cells;
@@ -8,30 +8,18 @@ pub mod shades;
 
 ghost use Rattle.std.specs.Prelude.{◌≡◌, length};
 ghost use Rattle.refusal.specs.Refusal.{told};
-ghost use Rattle.cell.specs.Cell.{array_cells, pages};
+ghost use Rattle.cell.specs.Cell.{array_cells};
 ghost use Rattle.lent.specs.Memory.{chip_in};
 ghost use Rattle.lent.specs.Looked.{output_refusal};
 ghost use Rattle.lent.specs.Views.{memory_in};
 ghost use Rattle.picture.specs.Outputs.{output_left};
 ghost use Rattle.picture.specs.Shades.{shade_at};
-ghost use Rattle.picture.specs.Marks.{mark_at};
 
-use crate::marks::write_marks;
 use crate::shades::write_shades;
-use cell::{CELLS, PAGES};
+use cell::CELLS;
 use lent::memory::Lent;
 use refusal::Refusal;
 use time::Time;
-
-// A mark for each page at a time, written to the output.
-pub fn see_marks(lent: Lent, time: Time, out: &mut [u8]) -> Result<(), Refusal>
-    ensures refused { told result ≡ output_refusal pages time (length out.old) (memory_in lent.entry) }
-    ensures left { out.new ≡ output_left (told result) (mark_at time (chip_in (memory_in lent.entry))) pages out.old }
-{
-    let held = lent.opened_with_room(time, PAGES, out.len())?;
-    write_marks(&held, time, out);
-    Ok(())
-}
 
 // A shade for each cell at a time, written to the output.
 pub fn see_shades(lent: Lent, time: Time, out: &mut [u8]) -> Result<(), Refusal>

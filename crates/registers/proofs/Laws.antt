@@ -8,6 +8,7 @@ use Prim.Native.Nat.{ℕ, ◌%◌}
 use native.Mathlib.Omega.{arith}
 use lib.Dec.{eqb}
 use borrow.Author.Tests.{eqb-true, not-false}
+use Rattle.lists.proofs.Bools.{either-way}
 use Rattle.time.specs.declared.Time.{Time}
 use Rattle.registers.specs.declared.Registers.{Registers}
 use Rattle.control.specs.declared.Mode.{Mode}
@@ -26,10 +27,6 @@ use Rattle.registers.specs.Environment.{unchanged, clears, reset, power_off, env
 use Rattle.registers.specs.Calls.{settles, next}
 
 -- a test between a value and itself
-pub either-way : {A : Type 0} (b : Bool) (x : A) → cond b x x ≡ x
-either-way true x = refl
-either-way false x = refl
-
 -- ---- settling
 
 -- settling changes the pending sense and no other field; `ap` of a field to this says it of that field

@@ -6,13 +6,13 @@ use Prim.Native.Nat.{ℕ, zero, suc, ◌+◌, ◌-◌, ◌*◌, ◌≤◌}
 use native.Mathlib.Nat.{zero-add}
 use native.Mathlib.Numerals.{add-one}
 use native.Mathlib.Omega.{arith}
-use lib.ListN.{length, take, drop, length-append}
-use lib.Seq.{sets, sets-eq, drop-drop}
+use lib.ListN.{length, length-append}
+use lib.Seq.{sets}
 use borrow.Rule.Slice.PartMut.{put_mid, mid_of, mid_len}
 use Rattle.cell.specs.Cell.{page_cells}
+use Rattle.lists.proofs.Stores.{sets-append, put-sets}
 use Rattle.rows.specs.Rows.{row}
 use Rattle.rows.proofs.Packed.{length-row}
-use Rattle.settle.proofs.Stored.{sets-append}
 use Rattle.snapshot.specs.Places.{pages_place, page_length, page_at, pages_cells}
 
 -- ---- the charges of pages
@@ -37,12 +37,6 @@ cells-snoc (suc n) xs place =
     ∙ sym (append_assoc (row page_cells 8 (place + 2) xs) (pages_cells n xs (place + page_length)) _))
 
 -- ---- the charges lent for a page
-
--- ys in the place of as many numbers
-put-sets : (a n : ℕ) (l ys : List ℕ) → length ys ≡ n → a + n ≤ length l → put_mid a n l ys ≡ sets l a ys
-put-sets a n l ys e h =
-    rw (drop-drop n a l, ← e)
-    (sym (sets-eq ys l a (rw e h) ∙ append_assoc (take a l) ys (drop (a + length ys) l)))
 
 -- a turn of the loop: the next slot's charges, lent and put back
 pub load-turn : (slot : ℕ) (xs l₀ l ys : List ℕ) (p : ℕ) → l ≡ sets l₀ 0 (pages_cells slot xs pages_place) → slot * 1024 + 1024 ≤ length l

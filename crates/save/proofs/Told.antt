@@ -2,13 +2,12 @@
 use mathlib.Core.Path.{◌≡◌, ap, sym, ◌∙◌}
 use mathlib.Core.Logic.{◌≢◌}
 use mathlib.Core.Bool.{cond}
-use mathlib.Core.List.{List, [], ◌∷◌, ◌++◌}
-use Prim.Native.Nat.{ℕ, ◌+◌, ◌-◌, ◌≤◌, ◌<◌}
+use mathlib.Core.List.{[], ◌∷◌}
+use Prim.Native.Nat.{ℕ, ◌≤◌, ◌<◌}
 use native.Mathlib.Omega.{arith}
 use lib.Dec.{ltb}
 use borrow.Author.Tests.{lt-ltb, le-ltb}
-use lib.ListN.{length, drop}
-use lib.Seq.{sets, sets-eq}
+use lib.ListN.{length}
 use Rattle.refusal.specs.declared.Refusal.TheVariants as refused
 use Rattle.settle.specs.Pages.{opened}
 use Rattle.settle.proofs.Slots.{opened-le}
@@ -23,10 +22,6 @@ use Rattle.lent.proofs.Lines.{given-first, given-after}
 use Rattle.snapshot.specs.Snapshot.{snapshot_of, snapshot_length}
 use Rattle.snapshot.specs.Asked.{write_refusal}
 use Rattle.snapshot.proofs.Length.{length-snapshot}
-
--- one list stored at the beginning of another
-pub put_front : (new out vs : List ℕ) (n : ℕ) → new ≡ vs → n ≡ length vs → length vs ≤ length out → new ++ drop (n - 0) out ≡ sets out 0 vs
-put_front new out vs n e d h = let f : n - 0 ≡ 0 + length vs = omega arith in rw (e, f) (sym (sets-eq vs out 0 (omega arith)))
 
 module _ (m : Memory) where
   -- the length, from the state that the record holds

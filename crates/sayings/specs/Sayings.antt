@@ -3,7 +3,7 @@
 use Rattle.std.specs.Prelude.{ℕ, ◌+◌, ◌-◌, ◌/◌, min, Bool, cond, List, [], ◌∷◌, ◌++◌, Option, Some, None, eqb}
 use Rattle.registers.specs.Calls.{ending_number}
 use Rattle.registers.specs.declared.Ending.TheVariants.{Completed}
-use Rattle.ledger.specs.Words.{kind_in, address_in, value_in, is_byte}
+use Rattle.settle.specs.Words.{kind_in, address_in, value_in, is_byte}
 use Rattle.moments.specs.Moments.{microsecond, exact_of}
 use Rattle.text.specs.Text.{said, either}
 

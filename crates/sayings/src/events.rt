@@ -4,7 +4,7 @@ ghost use Rattle.text.specs.Says.{Says};
 ghost use Rattle.sayings.specs.Sayings.{last_address, happened, event_said};
 
 use crate::times::instant;
-use ledger::event_word::{address_in, kind_in, value_in};
+use settle::event_words::{address_in, kind_in, value_in};
 use settling::EventKind;
 use text::Text;
 use time::Time;

@@ -11,7 +11,7 @@ use Rattle.std.specs.Simd.{first_chunks}
 use lib.Seq.{get_or-take, get_or-drop, length-take-le}
 use Rattle.std.proofs.lemmas.List.{length-drop}
 use Rattle.cell.specs.Cell.{FULL, page_cells}
-use Rattle.cell.proofs.Chunks.{chunk-at}
+use Rattle.lists.proofs.Chunks.{chunk-at}
 use Rattle.rows.proofs.Bytes.{worth}
 use Rattle.rows.specs.Rows.{word}
 use Rattle.snapshot.specs.Asked.{first}

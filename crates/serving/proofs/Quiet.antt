@@ -21,9 +21,9 @@ use Rattle.lent.specs.declared.Asking.{Asking}
 use Rattle.listing.specs.Calls.{call_at, asking_at}
 use Rattle.listing.specs.Replaying.{stops, reads, idle, asks_after, last_of}
 use Rattle.listing.proofs.Going.{unsaid, stopped}
-use Rattle.verdict.specs.declared.Tally.{Tally}
-use Rattle.verdict.specs.Pulses.{raised, tallied}
-use Rattle.verdict.proofs.Ends.{counted_none}
+use Rattle.settle.specs.declared.tally.Tally.{Tally}
+use Rattle.settle.specs.Tallies.{raised, tallied}
+use Rattle.settle.proofs.Tallied.{counted_none}
 use Rattle.course.specs.declared.Complaint.{Complaint}
 use Rattle.course.specs.declared.Course.{Course}
 use Rattle.course.specs.declared.Manner.{Manner}

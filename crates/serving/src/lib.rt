@@ -13,9 +13,9 @@ use lent::{Answer, Asking};
 use listing::{Replayed, call_at};
 use refusal::Refusal;
 use replay::replay;
+use settling::tallies::tallied;
 use slices::first;
 use text::Text;
-use verdict::pulses::tallied;
 use voices::call_said;
 
 // What some calls came to, and the first call that is not done.

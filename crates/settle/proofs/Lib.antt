@@ -5,4 +5,6 @@ pub mod Place
 pub mod Range
 pub mod Slots
 pub mod Stored
+pub mod Tallied
 pub mod Turns
+pub mod Words

@@ -4,23 +4,16 @@ use mathlib.Core.Path.{◌≡◌, refl, ap, sym, ◌∙◌}
 use mathlib.Core.Logic.{◌≢◌}
 use mathlib.Core.List.{List, [], ◌∷◌, ◌++◌, append-nil}
 use Prim.Native.Nat.{ℕ, suc, ◌+◌, ◌-◌, ◌≤◌, ◌<◌}
-use native.Mathlib.Nat.{add-zero, zero-add}
+use native.Mathlib.Nat.{zero-add}
 use native.Mathlib.Omega.{arith}
 use borrow.Author.Tests.{ne_eqb}
 use lib.ListN.{length, set, take, drop, length-append, take-append-drop}
 use lib.Seq.{sets, length-sets, set-get_or, get_or-take, ext_get_or, length-take-le}
+use Rattle.lists.proofs.Stores.{sets-append}
 use Rattle.cell.specs.Cell.{at}
 use Rattle.settle.specs.Settling.{spanned, changes, word, byte_kind}
 use Rattle.settle.proofs.Loop.{changes-same, changes-append, changes-set}
 use Rattle.settle.proofs.Place.{length-spanned, spanned-same, spanned-low, spanned-high, spanned-none, spanned-rest, spanned-suc, spanned-join, changes-count}
-
--- ---- a run of stores in two parts
-
-pub sets-append : (l : List ℕ) (i : ℕ) (xs ys : List ℕ) → sets l i (xs ++ ys) ≡ sets (sets l i xs) (i + length xs) ys
-sets-append l i [] ys = rw (add-zero i)
-sets-append l i (x ∷ xs) ys =
-    let e : i + suc (length xs) ≡ suc i + length xs = omega arith in
-    rw e (sets-append (set l i x) (suc i) xs ys)
 
 -- ---- the changes of two stretches side by side
 

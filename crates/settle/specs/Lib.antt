@@ -1,3 +1,5 @@
 pub mod Pages
 pub mod Settling
+pub mod Words
+pub mod Tallies
 pub mod Views

@@ -6,3 +6,4 @@ pub mod cells;
 pub mod event_words;
 pub mod exposure;
 pub mod pages;
+pub mod tally;

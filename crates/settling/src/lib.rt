@@ -2,6 +2,8 @@
 // event word.
 #![tactic(auto)]
 
+pub mod tallies;
+
 ghost use Rattle.std.specs.Prelude.{◌≡◌, ◌<◌, ◌≤◌, ◌+◌, ◌*◌, ◌-◌, IfSome, length};
 ghost use Rattle.std.proofs.lemmas.List.Edits.{sets};
 ghost use Rattle.cell.specs.Cell.{array_bytes, page_bytes, page_cells, pages, at, sensed_byte};

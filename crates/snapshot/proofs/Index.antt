@@ -2,25 +2,25 @@
 -- one after the other. Charge pages of distinct addresses, entered into an index without pages, each take the next slot and keep it.
 -- Assumes nothing.
 use mathlib.Core.Path.{◌≡◌, refl, sym, ap, ◌∙◌}
-use mathlib.Core.Bool.{true, false, not, ◌||◌, and-eq-true_iff}
+use mathlib.Core.Bool.{true, false, not, ◌||◌}
 use mathlib.Core.Logic.{◌≢◌}
 use mathlib.Core.List.{List, [], ◌∷◌, ◌++◌, reverse_aux, append_assoc}
-use Prim.Native.Nat.{ℕ, zero, suc, ◌+◌, ◌*◌, ◌/◌, ◌%◌, ◌≤◌, ◌<◌}
+use Prim.Native.Nat.{ℕ, zero, suc, ◌+◌, ◌*◌, ◌/◌, ◌≤◌, ◌<◌}
 use native.Mathlib.Nat.{mul-div_cancel}
 use native.Mathlib.Omega.{arith}
 use native.Mathlib.Decide.{dec_lt, ℕ_discrete}
-use borrow.Author.Tests.{eqb-true, ltb-true, eq-eqb, ne_eqb}
+use borrow.Author.Tests.{eqb-true, eq-eqb, ne_eqb}
 use lib.ListN.{length, take, drop, set, length-append, length-take, length-drop, length-set, length-reverse, replicate, length-replicate, get_or-eq_default}
 use lib.Seq.{sets, sets-eq, ext_get_or, get_or-set_same, get_or-set_other, get_or-take, get_or-drop, take-add, drop-drop, take_at, drop_at}
-use lib.Dec.{ltb, eqb, eqb-suc-zero}
+use lib.Dec.{eqb, eqb-suc-zero}
 use Rattle.cell.specs.Cell.{at, FULL, pages, page_bytes}
 use Rattle.settle.specs.Pages.{opened, on_page, holds, slots_sound}
 use Rattle.settle.proofs.Slots.{Slots, opened-le, opened-set, slots-from, slots-sound}
 use Rattle.settle.proofs.Page.{slot_next, page-slots}
 use Rattle.flash.proofs.Fresh.{none_open}
 use Rattle.flash.specs.Chip.{no_pages}
-use Rattle.layout.specs.Layout.{index_row, placed}
-use Rattle.layout.proofs.Accepted.{placed-told}
+use Rattle.layout.specs.Layout.{placed, index_row}
+use Rattle.layout.proofs.Accepted.{placed-told, placed-says}
 use Rattle.rows.specs.Rows.{Fills}
 use Rattle.settle.specs.Views as views
 use Rattle.snapshot.specs.Snapshot.{ChargePage, addresses, place_of, slot_pages, indexed, cells_of}
@@ -119,11 +119,6 @@ module _ (index charges : List ℕ) (inv : Slots index charges) where
 
 -- ---- from charge pages to an index and back
 
-pub placed_is : (a : ℕ) → placed a 128 ≡ true → (a % 128 ≡ 0) × (a < 49152)
-placed_is a e =
-    let r = (and-eq-true_iff (eqb (a % 128) 0) (ltb a 49152)).0 e in
-    (eqb-true (a % 128) 0 r.0, ltb-true a 49152 r.1)
-
 -- The index after charge pages, the last of them first: as many slots as pages, and the page of an address has no slot if and only if the
 -- address is none of theirs.
 pub record Entered (before : List ChargePage) (index : List ℕ) : Type 0 where
@@ -181,7 +176,7 @@ entered-more {before} {index} n p g =
     q = p.0 / 128
 
     inside : q < length index
-    inside = omega (arith, placed_is p.0 g.address, n.long)
+    inside = omega (arith, placed-says p.0 128 g.address, n.long)
 
     sound_more : slots_sound (set index q (suc s)) ≡ true
     sound_more = rw (slot_next index q (entered-free n g), n.count) at (slots-sound (page-slots (views.cells_of index [] store) (slots-of n) q (λ i v. v)))
@@ -190,7 +185,7 @@ entered-more {before} {index} n p g =
         → eqb (at (set index q (suc s)) (a / 128)) 0 ≡ not (eqb a p.0 || holds a (addresses before))
     by a l (yes e) = rw (e, eq-eqb p.0 p.0 refl, get_or-set_same index q (suc s) 0 inside) (eqb-suc-zero s)
     by a l (no e) =
-        let m : a / 128 ≢ q = omega (arith, placed_is a l, placed_is p.0 g.address) in
+        let m : a / 128 ≢ q = omega (arith, placed-says a 128 l, placed-says p.0 128 g.address) in
         rw (ne_eqb a p.0 e, get_or-set_other index q (a / 128) (suc s) 0 m) (n.fresh a l)
 
 pub entered_all : (ps : List ChargePage) {before : List ChargePage} {index : List ℕ} → Entered before index → GoodPages before ps
@@ -230,7 +225,7 @@ rest_back charges rest [] n g d = refl
 rest_back charges rest (p ∷ ps) {before} {index} n g d =
     let s = length before in
     let q = p.0 / 128 in
-    let a = placed_is p.0 g.0.address in
+    let a = placed-says p.0 128 g.0.address in
     let more = entered-more n p g.0 in
     let final = indexed (suc s) ps (set index q (suc s)) in
     let here : at final q ≡ suc s = entered-keeps ps more g.1 q s (get_or-set_same index q (suc s) 0 (omega (arith, n.long))) in

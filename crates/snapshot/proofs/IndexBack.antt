@@ -8,7 +8,7 @@ use native.Mathlib.Omega.{arith}
 use lib.Dec.{eqb}
 use lib.ListN.{length, length-set}
 use Rattle.std.specs.Prelude.{Option, Some, None}
-use Rattle.time.proofs.Bools.{either}
+use Rattle.lists.proofs.Bools.{either}
 use Rattle.time.specs.declared.Time.{Time}
 use Rattle.cell.specs.Cell.{at}
 use Rattle.control.specs.Bits.{FENR, FLMCR1, FLPWCR, EBR1, SWE, has, low, verifies}

@@ -19,7 +19,7 @@ use Rattle.borsh.specs.Borsh.{read_all, array, vec}
 use Rattle.snapshot.specs.Snapshot.{ChargePage, addresses, charge, charge_page, indexed, cells_of}
 use Rattle.snapshot.specs.Asked.{first}
 use Rattle.snapshot.specs.Places.{count_place, pages_place, page_length, page_at, count_in, count_number, cell_number, cells_number, address_number, with_page, pages_number, pages_index, end_number, pages_cells}
-use Rattle.snapshot.proofs.Index.{placed_is}
+use Rattle.layout.proofs.Accepted.{placed-says}
 use Rattle.snapshot.proofs.Fixed.{tell, next-tell, tell-map, first-zero, first-tests, Reads, int-reads, only-reads, then-reads, array-reads}
 
 -- ---- charges
@@ -50,7 +50,7 @@ unfolding no_pages holds
 holding-none =
     record {
       long = length-replicate {A = ℕ} 384 0;
-      free = λ a h. eq-eqb (at (replicate 384 0) (a / 128)) 0 (get_or-replicate 384 (a / 128) 0 0 (omega (arith, placed_is a h)));
+      free = λ a h. eq-eqb (at (replicate 384 0) (a / 128)) 0 (get_or-replicate 384 (a / 128) 0 0 (omega (arith, placed-says a 128 h)));
     }
 
 holding-more : (index before : List ℕ) (w s : ℕ) → Holding index before → placed w 128 ≡ true
@@ -60,7 +60,7 @@ holding-more index before w s inv h =
     record { long = length-set index (w / 128) (suc s) ∙ inv.long; free = λ a k. by a k (eqb a w) refl }
   where
     t : (w % 128 ≡ 0) × (w < 49152)
-    t = placed_is w h
+    t = placed-says w 128 h
 
     by : (a : ℕ) → placed a 128 ≡ true → (b : Bool) → eqb a w ≡ b
         → eqb (at (set index (w / 128) (suc s)) (a / 128)) 0 ≡ not (b || holds a before)
@@ -68,7 +68,7 @@ holding-more index before w s inv h =
         let i : w / 128 < length index = omega (arith, inv.long, t) in
         rw (eqb-true a w e, get_or-set_same index (w / 128) (suc s) 0 i) (ne_eqb (suc s) 0 (λ z. omega arith))
     by a k false e =
-        let u = placed_is a k in
+        let u = placed-says a 128 k in
         rw (get_or-set_other index (w / 128) (a / 128) (suc s) 0 (λ z. eqb-false a w e (omega (arith, t)))) (inv.free a k)
 
 -- ---- charge pages

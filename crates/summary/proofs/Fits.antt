@@ -12,18 +12,19 @@ use lib.Dec.{eqb, ltb}
 use lib.ListN.{length, get_or, take, drop, length-append, length-take}
 use lib.Seq.{sets-eq, take_all, take-append_seam}
 use Rattle.time.specs.declared.Time.{Time}
-use Rattle.time.proofs.Bools.{either}
+use Rattle.lists.proofs.Bools.{either}
 use Rattle.flash.specs.Chip.{Chip}
-use Rattle.flash.specs.Looking.{image_at}
+use Rattle.flash.specs.declared.PageState.{PageState}
+use Rattle.flash.specs.declared.PageState.TheVariants.{Blank, Legible}
+use Rattle.flash.specs.Looking.{page_states}
 use Rattle.text.specs.declared.Mark.{Mark}
 use Rattle.text.specs.declared.Mark.TheVariants.{Plain, Word, Number}
 use Rattle.text.specs.Text.{bytes, digits, mark_of, piece, taken, filled}
 use Rattle.text.specs.Puts.{fitting, Puts}
 use Rattle.answers.specs.Report.{call_lines, verdict_line}
-use Rattle.verdict.specs.Legible.{legible}
 use Rattle.verdict.specs.declared.Counts.{Counts}
 use Rattle.summary.specs.declared.Judged.{Judged}
-use Rattle.summary.specs.Summary.{lines, left_out_line, pulses_in, counts_text, pages_in, page_legible, pages_text, map_row, map_text, lies, address_line, only_line, legible_among, judged_text, summary_text}
+use Rattle.summary.specs.Summary.{lines, left_out_line, pulses_in, counts_text, pages_in, state_line, page_told, pages_text, map_row, map_text, lies, address_line, only_line, legible_among, judged_text, summary_text}
 use Rattle.summary.specs.Reported.{marks_for, report_text, Reports}
 
 -- ---- templates
@@ -83,11 +84,16 @@ counts-most c =
     let pulses = lines-most (pulses_in c.tally) 100 (λ i. filled-most _ [] _) 6 0 in
     rw (length-append, length-append) (omega arith)
 
-pages-most : (image : List ℕ) → length (pages_text image) ≤ 7926
+state-most : (state : PageState) (p : ℕ) → length (state_line state p) ≤ 19
+unfolding weight most
+state-most Blank p = omega arith
+state-most Legible p = filled-most _ [] _
+
+pages-most : (states : List PageState) → length (pages_text states) ≤ 7926
 unfolding pages_text pages_in weight most
-pages-most image =
-    let blocks = lines-most (pages_in image) 105 (λ i. filled-most _ [] _) 6 0 in
-    let pages = lines-most (page_legible image) 19 (λ i. by-test (legible image i) _ [] 19 (filled-most _ [] _) (omega arith)) 384 0 in
+pages-most states =
+    let blocks = lines-most (pages_in states) 105 (λ i. filled-most _ [] _) 6 0 in
+    let pages = lines-most (page_told states) 19 (λ i. state-most (get_or states i Blank) i) 384 0 in
     rw length-append (omega arith)
 
 row-most : (marks : List ℕ) (r : ℕ) → length (map_row marks r) ≤ 38
@@ -112,21 +118,21 @@ verdict-most n = by (eqb n 0)
     by true = let f = filled-most (bytes "verdict: blank\n") [] (n ∷ []) in omega arith
     by false = filled-most _ [] _
 
-judged-most : (image : List ℕ) (j : Judged) → length (judged_text image j) ≤ 73
+judged-most : (states : List PageState) (j : Judged) → length (judged_text states j) ≤ 73
 unfolding judged_text weight most
-judged-most image j =
+judged-most states j =
     let only : length (only_line j) ≤ 28 =
     by-test (eqb j.pages 384 || eqb j.pages 0 || not (lies j)) [] (address_line j) 28 (omega arith) (filled-most _ [] _) in
-    let verdict = verdict-most (legible_among image j) in
+    let verdict = verdict-most (legible_among states j) in
     rw length-append (omega arith)
 
-summary-most : (c : Counts) (image : List ℕ) (marks : Option (List ℕ)) (j : Judged) → length (summary_text c image marks j) ≤ 9214
+summary-most : (c : Counts) (states : List PageState) (marks : Option (List ℕ)) (j : Judged) → length (summary_text c states marks j) ≤ 9214
 unfolding summary_text
-summary-most c image marks j =
+summary-most c states marks j =
     let a = counts-most c in
-    let b = pages-most image in
+    let b = pages-most states in
     let d = map-most marks in
-    let e = judged-most image j in
+    let e = judged-most states j in
     rw (length-append, length-append, length-append) (omega arith)
 
 -- A text that fits is there whole.
@@ -139,7 +145,7 @@ module _ (c : Counts) (j : Judged) (map : Bool) (t : Time) (k : Chip) where
   -- every report fits into 9,214 bytes
   pub report-most : length (report_text c j map t k) ≤ 9214
   unfolding report_text
-  report-most = summary-most c (image_at t k) (marks_for map t k) j
+  report-most = summary-most c (page_states t k) (marks_for map t k) j
 
   -- so up to where it ends in a slice of that many stands the report and nothing else
   pub report-whole : (refusal : ℕ) (out left : List ℕ) (end : ℕ) → Reports refusal (report_text c j map t k) out left (Ok end)

@@ -4,31 +4,21 @@ use Rattle.std.specs.Prelude.{ℕ, ◌≡◌, Bool, cond, List, Option, None, So
 use Rattle.refusal.specs.declared.Refusal.{Refusal}
 use Rattle.refusal.specs.Refusal.{number}
 use Rattle.time.specs.declared.Time.{Time}
-use Rattle.cell.specs.Cell.{pages, tabulate}
 use Rattle.flash.specs.Chip.{Chip}
-use Rattle.flash.specs.Looking.{image_at}
-use Rattle.picture.specs.Marks.{mark_at}
+use Rattle.flash.specs.Looking.{page_states}
+use Rattle.picture.specs.Marks.{marks_at}
 use Rattle.text.specs.Puts.{Puts}
 use Rattle.verdict.specs.declared.Counts.{Counts}
 use Rattle.summary.specs.declared.Judged.{Judged}
 use Rattle.summary.specs.Summary.{summary_text}
 
--- What a look leaves in an output of its answer's length: the refusal's number, and the answer where it is 0.
-pub record Shows (refusal : ℕ) (answer : List ℕ) (number : ℕ) (left : List ℕ) : Type 0 where
-  pub number_is : number ≡ refusal
-  pub answer_is : refusal ≡ 0 → left ≡ answer
-
--- the marks of all pages at a time
-unfoldable pub marks_at : Time → Chip → List ℕ
-marks_at t k = tabulate (mark_at t k) pages
-
--- the same where the map is asked for
+-- the marks of all pages at a time, where the map is asked for
 abbrev pub marks_for : Bool → Time → Chip → Option (List ℕ)
 marks_for map t k = cond map (Some (marks_at t k)) None
 
 -- the report on a chip at a time
 unfoldable pub report_text : Counts → Judged → Bool → Time → Chip → List ℕ
-report_text c j map t k = summary_text c (image_at t k) (marks_for map t k) j
+report_text c j map t k = summary_text c (page_states t k) (marks_for map t k) j
 
 -- What a report leaves: the text, from the slice's start up to the place that is given back; on the look's refusal the slice as it was.
 abbrev pub Reports : ℕ → List ℕ → List ℕ → List ℕ → Result ℕ Refusal → Type 0

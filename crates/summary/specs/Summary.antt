@@ -1,15 +1,18 @@
--- The text of a report, from what was counted, the image and the map's marks, if any: its parts in the order in which they are printed.
+-- The text of a report, from what was counted, the states of the pages and the map's marks, if any: its parts in the order in which they are
+-- printed.
 -- Assumes nothing.
-use Rattle.std.specs.Prelude.{ℕ, zero, suc, ◌+◌, ◌-◌, ◌*◌, ◌<◌, Bool, cond, not, ◌||◌, List, [], ◌∷◌, ◌++◌, eqb, leb, take, drop, Option, None, Some}
+use Rattle.std.specs.Prelude.{ℕ, zero, suc, ◌+◌, ◌-◌, ◌*◌, ◌<◌, Bool, cond, not, ◌||◌, List, [], ◌∷◌, ◌++◌, eqb, leb, get_or, take, drop, Option, None, Some}
 use Rattle.std.specs.Borrow.{MutBor}
 use Rattle.cell.specs.Cell.{page_bytes, pages, at}
+use Rattle.control.specs.Blocks.{blocks, block_range}
+use Rattle.settle.specs.declared.tally.Tally.{Tally}
+use Rattle.flash.specs.declared.PageState.{PageState}
+use Rattle.flash.specs.declared.PageState.TheVariants.{Blank, Legible}
 use Rattle.text.specs.declared.Text.{Text}
 use Rattle.text.specs.Text.{bytes, filled, said}
 use Rattle.text.specs.Says.{Says}
+use Rattle.verdict.specs.States.{count_in}
 use Rattle.answers.specs.Report.{call_lines, pulse_line, page_line, legible_line, verdict_line}
-use Rattle.verdict.specs.declared.Tally.{Tally}
-use Rattle.verdict.specs.Blocks.{blocks, block_range}
-use Rattle.verdict.specs.Legible.{legible, legible_in}
 use Rattle.verdict.specs.declared.Counts.{Counts}
 use Rattle.summary.specs.declared.Judged.{Judged}
 
@@ -37,20 +40,25 @@ counts_text c = call_lines c.made c.refused ++ left_out_line c.left_out ++ lines
 
 -- ---- pages
 
--- n pages from page p on, of which some are legible: the first and the last address, how many are blank, and how many legible
-abbrev pub range_line : ℕ → ℕ → ℕ → ℕ → List ℕ
-range_line b p n some = page_line b (p * page_bytes) ((p + n) * page_bytes - 1) (n - some) some
+-- n pages of block b from page p on: the first and the last address, how many are blank, and how many legible
+abbrev pub range_line : List PageState → ℕ → ℕ → ℕ → List ℕ
+range_line states b p n =
+    page_line b (p * page_bytes) ((p + n) * page_bytes - 1) (count_in Blank states p n) (count_in Legible states p n)
 
 -- the pages of block b
-unfoldable pub pages_in : List ℕ → ℕ → List ℕ
-pages_in image b = let r = block_range b in range_line b r.first r.pages (legible_in image r.first r.pages)
+unfoldable pub pages_in : List PageState → ℕ → List ℕ
+pages_in states b = range_line states b (block_range b).first (block_range b).pages
 
--- page p, if it is legible
-abbrev pub page_legible : List ℕ → ℕ → List ℕ
-page_legible image p = cond (legible image p) (legible_line (p * page_bytes)) []
+-- a line for page p, if its state has one
+abbrev pub state_line : PageState → ℕ → List ℕ
+state_line Blank p = []
+state_line Legible p = legible_line (p * page_bytes)
 
-unfoldable pub pages_text : List ℕ → List ℕ
-pages_text image = lines (pages_in image) 0 blocks ++ lines (page_legible image) 0 pages
+abbrev pub page_told : List PageState → ℕ → List ℕ
+page_told states p = state_line (get_or states p Blank) p
+
+unfoldable pub pages_text : List PageState → List ℕ
+pages_text states = lines (pages_in states) 0 blocks ++ lines (page_told states) 0 pages
 
 -- ---- the map
 
@@ -85,13 +93,13 @@ abbrev pub only_line : Judged → List ℕ
 only_line j = cond (eqb j.pages pages || eqb j.pages 0 || not (lies j)) [] (address_line j)
 
 -- How many of the judged pages are legible. Where they do not lie in the flash all of them count: nothing is called blank unseen.
-unfoldable pub legible_among : List ℕ → Judged → ℕ
-legible_among image j = cond (lies j) (legible_in image j.first j.pages) j.pages
+unfoldable pub legible_among : List PageState → Judged → ℕ
+legible_among states j = cond (lies j) (count_in Legible states j.first j.pages) j.pages
 
-unfoldable pub judged_text : List ℕ → Judged → List ℕ
-judged_text image j = only_line j ++ verdict_line (legible_among image j)
+unfoldable pub judged_text : List PageState → Judged → List ℕ
+judged_text states j = only_line j ++ verdict_line (legible_among states j)
 
 -- ---- all of it
 
-unfoldable pub summary_text : Counts → List ℕ → Option (List ℕ) → Judged → List ℕ
-summary_text c image marks j = counts_text c ++ pages_text image ++ map_text marks ++ judged_text image j
+unfoldable pub summary_text : Counts → List PageState → Option (List ℕ) → Judged → List ℕ
+summary_text c states marks j = counts_text c ++ pages_text states ++ map_text marks ++ judged_text states j

@@ -1,14 +1,15 @@
 // What was counted: calls, lines left out, and the pulses of each block.
 ghost use Rattle.std.specs.Prelude.{◌<◌};
 ghost use Rattle.text.specs.Says.{Says};
-ghost use Rattle.verdict.specs.Blocks.{blocks};
+ghost use Rattle.control.specs.Blocks.{blocks};
 ghost use Rattle.summary.specs.Summary.{lines, left_out_line, pulses_in, counts_text};
 
 use crate::series::put_lines;
+use control::blocks::BLOCKS;
+use settle::tally::Tally;
 use answers::report::{calls, pulses};
 use text::Text;
-use verdict::blocks::BLOCKS;
-use verdict::{Counts, Tally};
+use verdict::Counts;
 
 fn put_left_out(text: &mut Text, lines: u64)
     ensures { Says (left_out_line lines) text.old text.new }

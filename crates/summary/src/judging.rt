@@ -6,10 +6,11 @@ ghost use Rattle.summary.specs.Summary.{address_line, only_line, legible_among, 
 ghost use Rattle.summary.specs.Summary.{lies as Summary·lies};
 
 use crate::Judged;
-use cell::{FLASH_SIZE, PAGE, PAGES};
+use cell::{PAGE, PAGES};
+use flash::PageState;
 use answers::report::verdict as verdict_line;
 use text::Text;
-use verdict::legible::legible_pages;
+use verdict::states::count_in;
 
 // Whether the judged pages lie in the flash.
 fn lies(judged: Judged) -> bool
@@ -40,20 +41,20 @@ fn put_only(text: &mut Text, judged: Judged)
 
 // How many of the judged pages are legible. Where they do not lie in the flash all of them count, so that nothing is called blank unseen.
 #[tactic(auto, unfolding(crate::specs::Summary::legible_among))]
-pub fn legible_among(image: &[u8; FLASH_SIZE], judged: Judged) -> usize
-    ensures { result ≡ legible_among image.now judged }
+pub fn legible_among(states: &[PageState; PAGES], judged: Judged) -> usize
+    ensures { result ≡ legible_among states.now judged }
 {
     if lies(judged) {
-        legible_pages(image, judged.first, judged.pages)
+        count_in(states, judged.first, judged.pages, PageState::Legible)
     } else {
         judged.pages
     }
 }
 
-pub fn put_judged(text: &mut Text, image: &[u8; FLASH_SIZE], judged: Judged)
-    ensures { Says (judged_text image.now judged) text.old text.new }
+pub fn put_judged(text: &mut Text, states: &[PageState; PAGES], judged: Judged)
+    ensures { Says (judged_text states.now judged) text.old text.new }
 {
     put_only(text, judged);
-    let legible = legible_among(image, judged);
+    let legible = legible_among(states, judged);
     verdict_line(text, legible as u64);
 }

@@ -16,7 +16,7 @@ use Rattle.grammar.specs.declared.Line.{Line}
 use Rattle.grammar.specs.declared.Line.TheVariants.{Nothing, Call, Look, Wrong}
 use Rattle.grammar.specs.Grammar.{line_of}
 use Rattle.history.specs.History.{calls_of, time_after, Waiting, waits, Takes}
-use Rattle.verdict.specs.Pulses.{raised}
+use Rattle.settle.specs.Tallies.{raised}
 use Rattle.course.specs.Bounds.{room}
 use Rattle.course.specs.declared.Manner.{Manner}
 use Rattle.course.specs.declared.Place.{Place}

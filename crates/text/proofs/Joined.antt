@@ -7,25 +7,16 @@ use native.Mathlib.Nat.{add-zero, min_comm, min-eq_left}
 use native.Mathlib.Omega.{arith}
 use native.Mathlib.Decide.{dec_le}
 use lib.ListN.{length, take, set, length-append, length-take, length-set}
-use lib.Seq.{sets, length-sets, set_out, take-nil, take_all, drop-drop}
+use lib.Seq.{sets, length-sets, take-nil, take_all, drop-drop}
 use borrow.Rule.Slice.PartMut.{put_mid}
 use Rattle.std.proofs.lemmas.List.{take_min}
 use Rattle.std.proofs.lemmas.List.Edits.{sets-eq}
+use Rattle.lists.proofs.Stores.{sets-append, sets-out}
 use Rattle.text.specs.declared.Text.{Text}
 use Rattle.text.specs.Puts.{fitting, Ends, Puts}
 use Rattle.text.specs.Says.{Says, SaysSome}
 
 -- ---- runs of stores
-
-sets-append : (l : List ℕ) (i : ℕ) (xs ys : List ℕ) → sets l i (xs ++ ys) ≡ sets (sets l i xs) (i + length xs) ys
-sets-append l i [] ys = rw (add-zero i)
-sets-append l i (x ∷ xs) ys =
-    let e : i + suc (length xs) ≡ suc i + length xs = omega arith in
-    rw e (sets-append (set l i x) (suc i) xs ys)
-
-sets-out : (l : List ℕ) (i : ℕ) (vs : List ℕ) → length l ≤ i → sets l i vs ≡ l
-sets-out l i [] h = refl
-sets-out l i (v ∷ vs) h = rw (set_out l i v h) (sets-out l (suc i) vs (omega arith))
 
 -- what does not fit is not stored either
 sets-fitting : (l : List ℕ) (i : ℕ) (vs : List ℕ) → sets l i (fitting l i vs) ≡ sets l i vs

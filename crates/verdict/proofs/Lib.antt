@@ -1,6 +1,3 @@
--- Laws on what is counted, each in its own file.
+-- Laws on what is counted.
 -- Assumes nothing.
-pub mod Places
-pub mod Ends
 pub mod Pages
-pub mod Images

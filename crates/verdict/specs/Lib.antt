@@ -1,6 +1,3 @@
--- What the desk counts: legible pages, the blocks they lie in, and the pulses that ended in each. Document 01 decides which page is blank,
--- where the blocks stand and what an event word says.
+-- What the desk counts of the pages of a flash. Which page is in which state is `flash` Looking: `page_states`.
 -- Assumes nothing.
-pub mod Legible
-pub mod Blocks
-pub mod Pulses
+pub mod States

@@ -1,18 +1,9 @@
-// What the desk counts: legible pages of an image, by block, pulses that ended in each block, calls made and refused, and lines left out.
+// What the desk counts: pages by their state, and calls made and refused, lines left out and pulses by block.
 #![tactic(auto)]
 
-use crate::blocks::BLOCKS;
+use settle::tally::Tally;
 
-pub mod blocks;
-pub mod legible;
-pub mod pulses;
-
-// How many pulses ended in each block: completed, and interrupted. A count stays at the largest number.
-#[derive(Clone, Copy, Default)]
-pub struct Tally {
-    pub completed: [u64; BLOCKS],
-    pub interrupted: [u64; BLOCKS],
-}
+pub mod states;
 
 // Calls made, calls refused, lines left out, and pulses by block.
 #[derive(Clone, Copy, Default)]

@@ -1,31 +1,34 @@
 // The three kinds of look: what is seen is put at the start of a slice, and on a refusal nothing is.
 ghost use Rattle.refusal.specs.Refusal.{Answers};
 ghost use Rattle.cell.specs.Cell.{pages};
-ghost use Rattle.flash.specs.Looking.{image_at};
+ghost use Rattle.flash.specs.Looking.{page_states};
 ghost use Rattle.lent.specs.Memory.{chip_in};
 ghost use Rattle.lent.specs.Looked.{look_refusal};
 ghost use Rattle.lent.specs.Views.{memory_in};
-ghost use Rattle.verdict.specs.Legible.{legible_in};
+ghost use Rattle.verdict.specs.States.{count_in};
 ghost use Rattle.voices.specs.Looks.{Looks};
-ghost use Rattle.std.specs.Prelude.{false};
 
 use answers::{looked_byte, looked_cell, looked_whole};
-use cell::{FLASH_SIZE, PAGES};
+use cell::{PAGE, PAGES};
+use flash::PageState;
 use grammar::Looking;
+use lent::checking::address_place;
 use lent::memory::Lent;
+use look::imaging::peek;
+use look::states::{page_state, page_states};
 use refusal::Refusal;
-use see::{see_blank, see_byte, see_charge, see_image};
+use see::see_charge;
 use text::Text;
 use time::Time;
-use verdict::legible::legible_pages;
+use verdict::states::count_in;
 
 // How many pages are legible.
 fn see_pages(lent: Lent, time: Time) -> Result<u64, Refusal>
-    ensures { Answers (look_refusal 0 time (memory_in lent.entry)) (legible_in (image_at time (chip_in (memory_in lent.entry))) 0 pages) result }
+    ensures { Answers (look_refusal 0 time (memory_in lent.entry)) (count_in PageState.Legible (page_states time (chip_in (memory_in lent.entry))) 0 pages) result }
 {
-    let mut image = [0u8; FLASH_SIZE];
-    see_image(lent, time, &mut image)?;
-    Ok(legible_pages(&image, 0, PAGES) as u64)
+    let held = lent.opened_at(Ok(()), time)?;
+    let states = page_states(&held, time);
+    Ok(count_in(&states, 0, PAGES, PageState::Legible) as u64)
 }
 
 fn look_at_all(lent: Lent, line: u64, time: Time, out: &mut [u8]) -> Result<usize, Refusal>
@@ -37,7 +40,7 @@ fn look_at_all(lent: Lent, line: u64, time: Time, out: &mut [u8]) -> Result<usiz
     Ok(text.at)
 }
 
-#[tactic(auto, unfolding(lent::specs::Looked::peek_refusal, lent::specs::Looked::blank_refusal, lent::specs::Looked::peek_answer))]
+#[tactic(auto, unfolding(lent::specs::Looked::peek_refusal))]
 fn look_at_byte(
     lent: Lent,
     line: u64,
@@ -47,10 +50,11 @@ fn look_at_byte(
 ) -> Result<usize, Refusal>
     ensures { Looks line (Looking.Byte address) time (memory_in lent.entry) result out.old out.new }
 {
-    let value = see_byte(lent, address, time)?;
-    let blank = see_blank(lent, address, time)?;
+    let held = lent.opened_at(address_place(address), time)?;
+    let value = peek(&held, usize::from(address), time);
+    let state = page_state(&held, usize::from(address) / PAGE, time);
     let mut text = Text::new(out);
-    looked_byte(&mut text, line, u64::from(address), u64::from(value), blank);
+    looked_byte(&mut text, line, u64::from(address), u64::from(value), state);
     Ok(text.at)
 }
 

@@ -6,8 +6,8 @@ use Rattle.time.specs.declared.Time.{Time}
 use Rattle.flash.specs.declared.Flash.{Flash}
 use Rattle.registers.specs.declared.Registers.{Registers}
 use Rattle.rows.specs.Rows.{row, row_in}
-use Rattle.layout.specs.Layout.{layout, instant_count, halves_at, time_of, registers_of, rows_in, decoded, state_of}
-use Rattle.coding.proofs.Pairs.{tabled}
+use Rattle.layout.specs.Layout.{time_of, registers_of, rows_in, decoded, state_of, layout, instant_count, halves_at}
+use Rattle.std.proofs.lemmas.List.FromFn.{fill_by_all}
 use Rattle.coding.proofs.read.Goals as goal
 
 made : (xs h a l s n : List ℕ) (pairs : List (List ℕ)) (r : Registers) (since : Time) → r ≡ registers_of h a (flat_map (λ halves. halves) pairs) l
@@ -25,4 +25,4 @@ returns c =
     let xs = c.args.«record».now in
     let each : (k : ℕ) → k < instant_count → get_or c.from_fn-halves.result k [] ≡ halves_at k xs = search arith in
     made xs _ _ _ _ _ c.from_fn-halves.result _ c.into.result c.registers_of-registers.ensures c.row_at-head.ensures c.row_at-addresses.ensures
-    (tabled [] (λ k. halves_at k xs) instant_count _ (search rules) each) c.into.ensures c.row_at-latch.ensures c.row_at.ensures c.row_at-2.ensures
+    (fill_by_all (λ k. halves_at k xs) _ instant_count [] (search rules) each) c.into.ensures c.row_at-latch.ensures c.row_at.ensures c.row_at-2.ensures

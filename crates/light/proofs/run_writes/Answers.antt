@@ -10,7 +10,7 @@ use Rattle.std.specs.Simd.{first_chunks}
 use Prim.Native.Nat.{ℕ, ◌+◌, ◌-◌, ◌*◌, ◌^◌, ◌<◌}
 use lib.ListN.{get_or}
 use Rattle.cell.specs.Cell.{at}
-use Rattle.cell.proofs.Chunks.{chunk-at}
+use Rattle.lists.proofs.Chunks.{chunk-at}
 use Rattle.light.proofs.run_writes.Goals as goal
 
 pub invariant_of-now : goal.invariant_of-now

@@ -3,7 +3,8 @@
 use lib.ListN.{length}
 use Rattle.refusal.proofs.Outcomes.{number-some, passed-on}
 use Rattle.lent.specs.Views.{memory_in}
-use Rattle.save.proofs.Told.{put_front, length-written, told-first, told-8, told-none}
+use Rattle.lists.proofs.Stores.{put_front}
+use Rattle.save.proofs.Told.{length-written, told-first, told-8, told-none}
 use native.Mathlib.Omega.{arith}
 use Rattle.save.proofs.write_snapshot.Goals as goal
 

@@ -8,7 +8,7 @@ use lib.ListN.{length, get_or, replicate, length-replicate}
 use Rattle.std.specs.Simd.{first_chunks}
 use Rattle.cell.specs.declared.Sense.{Sense}
 use Rattle.cell.specs.Cell.{at, sensed_byte, sensed_page}
-use Rattle.cell.proofs.Chunks.{chunk-at}
+use Rattle.lists.proofs.Chunks.{chunk-at}
 use Rattle.cell.proofs.Maps.{get_or-mapi}
 use Rattle.cell.proofs.Sensed.{sensed_byte-same}
 use Rattle.settle.specs.Pages.{Cells}

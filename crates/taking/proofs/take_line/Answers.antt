@@ -4,7 +4,7 @@ use mathlib.Core.Path.{◌≡◌}
 use borrow.Author.Rules.{rules}
 use native.Mathlib.Omega.{arith}
 use lib.ListN.{length-take}
-use Rattle.verdict.specs.Pulses.{raised}
+use Rattle.settle.specs.Tallies.{raised}
 use Rattle.taking.proofs.Taken.{unread, fits, parsed}
 use Rattle.taking.proofs.take_line.Goals as goal
 

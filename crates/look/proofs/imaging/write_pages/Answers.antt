@@ -6,7 +6,7 @@ use native.Mathlib.Omega.{arith}
 use lib.ListN.{take, drop}
 use lib.Seq.{sets}
 use Rattle.look.proofs.After.{after, after-long, page-else}
-use Rattle.look.proofs.Stores.{sets_more, sets-all}
+use Rattle.lists.proofs.Stores.{sets_more, sets-all}
 use Rattle.look.proofs.imaging.write_pages.Goals as goal
 use Rattle.look.proofs.imaging.write_pages.Goals.{then-covers, else-covers}
 

@@ -4,7 +4,7 @@ use mathlib.Core.Path.{◌≡◌}
 use Prim.Native.Nat.{◌*◌, ◌-◌}
 use native.Mathlib.Omega.{arith}
 use Rattle.look.proofs.After.{after-long}
-use Rattle.look.proofs.Stores.{sets-turn}
+use Rattle.lists.proofs.Stores.{sets-turn}
 use Rattle.look.proofs.imaging.write_sensed.Goals as goal
 
 pub loop-address-preserved : goal.loop-address-preserved

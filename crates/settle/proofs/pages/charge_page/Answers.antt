@@ -6,7 +6,7 @@ use mathlib.Core.List.{List, []}
 use lib.ListN.{get_or}
 use Rattle.time.specs.Raw.{span}
 use Rattle.cell.specs.Cell.{at}
-use Rattle.cell.proofs.Chunks.{chunk-at}
+use Rattle.lists.proofs.Chunks.{chunk-at}
 use Rattle.settle.specs.Pages.{Cells}
 use Rattle.settle.specs.Settling.{charged}
 use Rattle.settle.specs.Views.{cells_of}

@@ -5,4 +5,4 @@ use Rattle.summary.specs.Summary.{pages_in}
 use Rattle.summary.proofs.paging.put_blocks.Goals as goal
 
 pub returns : goal.returns
-returns c = c.put_lines.ensures (pages_in c.args.image.now) (λ k h t left put. search rules)
+returns c = c.put_lines.ensures (pages_in c.args.states.now) (λ k h t left put. search rules)

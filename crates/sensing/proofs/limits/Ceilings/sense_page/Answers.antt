@@ -7,7 +7,7 @@ use mathlib.Core.Path.{◌≡◌, ap, sym, ◌∙◌}
 use native.Mathlib.Omega.{arith}
 use lib.ListN.{get_or}
 use Rattle.cell.specs.Cell.{sensed_page, sensed_byte, at}
-use Rattle.cell.proofs.Chunks.{chunk-at}
+use Rattle.lists.proofs.Chunks.{chunk-at}
 use Rattle.cell.proofs.Partly.{partly-turn, partly-all}
 use Rattle.cell.proofs.Sensed.{sensed_byte-same}
 use Rattle.sensing.proofs.limits.Ceilings.sense_page.Goals as goal

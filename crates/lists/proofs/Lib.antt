@@ -1,0 +1,5 @@
+-- Laws on lists and choices, each in its own file.
+-- Assumes nothing.
+pub mod Bools
+pub mod Chunks
+pub mod Stores

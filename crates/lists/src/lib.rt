@@ -1,0 +1,2 @@
+// Laws on lists and choices that name nothing of the flash: proofs alone.
+#![tactic(auto)]
