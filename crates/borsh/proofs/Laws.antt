@@ -9,7 +9,7 @@ use borrow.Author.Tests.{ltb-true, ltb-false, leb-true, lt-ltb, le-ltb, le-leb}
 use lib.Dec.{ltb, leb}
 use lib.ListN.{length, drop, length-append, take-append-drop}
 use lib.Seq.{drop_at, get_or-drop}
-use Rattle.cell.specs.Cell.{at}
+use Rattle.lists.specs.Lists.{at}
 use Rattle.rows.specs.Rows.{word, bytes, flag_byte, flag_of}
 use Rattle.rows.proofs.Widths.{length-bytes, word_bytes, bytes_word, word_small}
 use Rattle.rows.proofs.Flags.{flag-known}

@@ -8,9 +8,10 @@ use native.Mathlib.Numerals.{add-one}
 use lib.Dec.{ltb, leb-suc-suc}
 use Rattle.cell.specs.declared.Sense.{Sense}
 use Rattle.cell.specs.declared.Sense.TheVariants.{Normal, ProgramVerify, EraseVerify}
-use Rattle.cell.specs.Cell.{class_of, class_table, limit_of, senses, ceiling_of, ceiling_table, sensed_cell, at, tabulate}
+use Rattle.lists.specs.Lists.{at, tabulate}
+use Rattle.cell.specs.Cell.{class_of, class_table, limit_of, senses, ceiling_of, ceiling_table, sensed_cell}
 use Rattle.cell.proofs.Class.{class-lt, class-256}
-use Rattle.cell.proofs.Table.{entry}
+use Rattle.lists.proofs.Table.{entry}
 
 pub senses-below : (m : Sense) (c q : ℕ) → senses m c q ≡ ltb q (ceiling_of m c)
 unfolding senses ceiling_of

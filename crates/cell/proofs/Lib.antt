@@ -1,7 +1,5 @@
-pub mod Maps
-pub mod Table
+pub mod OnSlot
 pub mod Class
-pub mod Partly
 pub mod Slot
 pub mod Rule
 pub mod Sensed

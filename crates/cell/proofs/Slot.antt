@@ -8,8 +8,10 @@ use native.Mathlib.Decide.{dec_lt}
 use borrow.Rule.Slice.PartMut.{put_mid, mid_of, same_len_mid}
 use lib.ListN.{length, get_or, take, drop, length-drop, get_or-append}
 use lib.Seq.{length-take-le, get_or-append-add, get_or-take, get_or-drop, ext_get_or}
-use Rattle.cell.specs.Cell.{mapi, on_slot}
-use Rattle.cell.proofs.Maps.{length-mapi, get_or-mapi, length-on_slot, get_or-on_slot-inside, get_or-on_slot-outside}
+use Rattle.lists.specs.Lists.{mapi}
+use Rattle.cell.specs.Cell.{on_slot}
+use Rattle.lists.proofs.Maps.{length-mapi, get_or-mapi}
+use Rattle.cell.proofs.OnSlot.{length-on_slot, get_or-on_slot-inside, get_or-on_slot-outside}
 
 -- ys in the place of the n elements from a on
 module _ (a n : ℕ) (xs ys : List ℕ) (l : length ys ≡ n) (fits : a + n ≤ length xs) where

@@ -1,7 +1,8 @@
 -- Cells: sizes, classes, sensing, and the rule of one cell. Document 01, "Cells and sensing" and "Pulses and settling".
 -- Assumes nothing.
-use Rattle.std.specs.Prelude.{ℕ, zero, suc, ◌+◌, ◌-◌, ◌*◌, ◌/◌, ◌%◌, ◌^◌, min, List, [], ◌∷◌, Bool, cond, get_or, replicate, ltb, leb, eqb}
+use Rattle.std.specs.Prelude.{ℕ, zero, suc, ◌+◌, ◌-◌, ◌*◌, ◌/◌, ◌%◌, ◌^◌, min, List, Bool, cond, ltb, leb, eqb}
 use Rattle.std.specs.Int.Bits.{bit_xor}
+use Rattle.lists.specs.Lists.{at, mapi, tabulate}
 use Rattle.cell.specs.declared.Sense.{Sense}
 use Rattle.cell.specs.declared.Sense.TheVariants.{Normal, ProgramVerify, EraseVerify}
 use Rattle.cell.specs.declared.Direction.{Direction}
@@ -25,19 +26,6 @@ pages = 384
 
 abbrev pub FULL : ℕ
 FULL = 12912720851596686100
-
--- ---- lists: an element by its place, an update of every element by its place, a table
-
-abbrev pub at : List ℕ → ℕ → ℕ
-at xs k = get_or xs k 0
-
-abbrev pub mapi : (ℕ → ℕ → ℕ) → ℕ → List ℕ → List ℕ
-mapi f i [] = []
-mapi f i (x ∷ xs) = f i x ∷ mapi f (suc i) xs
-
--- g 0, g 1, .. : n numbers
-abbrev pub tabulate : (ℕ → ℕ) → ℕ → List ℕ
-tabulate g n = mapi (λ k x. g k) 0 (replicate n 0)
 
 -- ---- classes and sensing
 

@@ -4,8 +4,9 @@ use mathlib.Core.Path.{◌≡◌}
 use mathlib.Core.List.{List}
 use Prim.Native.Nat.{ℕ, ◌+◌, ◌*◌, ◌/◌, ◌%◌, ◌<◌}
 use native.Mathlib.Omega.{arith}
-use Rattle.cell.specs.Cell.{at, bit, page_bit}
-use Rattle.cell.proofs.Partly.{partly}
+use Rattle.lists.specs.Lists.{at}
+use Rattle.cell.specs.Cell.{bit, page_bit}
+use Rattle.lists.proofs.Partly.{partly}
 
 -- In a loop inside another: a list that became ys in n turns has become zs in m turns.
 abbrev pub Further : (ℕ → ℕ → ℕ) → ℕ → ℕ → List ℕ → List ℕ → Type 0

@@ -8,7 +8,7 @@ use mathlib.Core.Bool.{and_assoc, and-true}
 use lib.Dec.{leb}
 use lib.Seq.{drop-cons}
 use Rattle.std.proofs.lemmas.List.{drop_all}
-use Rattle.cell.specs.Cell.{at}
+use Rattle.lists.specs.Lists.{at}
 use Rattle.layout.specs.Layout.{head_row, head_known}
 
 -- the bytes from a place on, each by its place

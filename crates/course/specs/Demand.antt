@@ -3,7 +3,8 @@
 -- and from a new array. Assumes nothing.
 use Rattle.std.specs.Prelude.{ℕ, ◌<◌, ◌≡◌, false, List, [], ◌++◌, map, length}
 use Rattle.time.specs.declared.Time.{Time}
-use Rattle.cell.specs.Cell.{array_bytes, array_cells, at}
+use Rattle.lists.specs.Lists.{at}
+use Rattle.cell.specs.Cell.{array_bytes, array_cells}
 use Rattle.lent.specs.Memory.{Memory}
 use Rattle.snapshot.specs.Asked.{read_refusal, memory_read}
 use Rattle.snapshot.specs.Claim.{Bytes}

@@ -3,7 +3,8 @@
 use Rattle.std.specs.Prelude.{ℕ, zero, suc, ◌+◌, ◌*◌, ◌/◌, ◌≡◌, Bool, true, false, cond, List, [], ◌∷◌, ◌++◌, eqb, Option, option_to_list}
 use Rattle.refusal.specs.Refusal.{numbered}
 use Rattle.time.specs.declared.Time.{Time}
-use Rattle.cell.specs.Cell.{page_bytes, pages, at}
+use Rattle.lists.specs.Lists.{at}
+use Rattle.cell.specs.Cell.{page_bytes, pages}
 use Rattle.settle.specs.Tallies.{tallied}
 use Rattle.flash.specs.declared.PageState.TheVariants.{Legible}
 use Rattle.flash.specs.Looking.{charge_at, peek_at, page_state, page_states}

@@ -7,7 +7,8 @@ use native.Mathlib.Omega.{arith}
 use native.Mathlib.Decide.{dec_lt}
 use lib.ListN.{length, replicate, length-replicate, get_or-replicate, get_or-eq_default}
 use Rattle.cell.specs.declared.Sense.TheVariants.{Normal}
-use Rattle.cell.specs.Cell.{at, bit, first_charge}
+use Rattle.lists.specs.Lists.{at}
+use Rattle.cell.specs.Cell.{bit, first_charge}
 use Rattle.cell.proofs.Sensed.{sensed_byte-same, first-sensed}
 use Rattle.settle.specs.Pages.{held, cell_at}
 use Rattle.settle.specs.Views.{cells_of}

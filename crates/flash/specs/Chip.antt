@@ -5,7 +5,8 @@ use Rattle.std.specs.Prelude.{ℕ, suc, ◌+◌, ◌*◌, ◌%◌, ◌^◌, ◌�
 use Rattle.std.proofs.lemmas.List.Edits.{sets}
 use Rattle.time.specs.declared.Time.{Time}
 use Rattle.time.specs.Raw.{instant}
-use Rattle.cell.specs.Cell.{array_bytes, array_cells, pages, at}
+use Rattle.lists.specs.Lists.{at}
+use Rattle.cell.specs.Cell.{array_bytes, array_cells, pages}
 use Rattle.control.specs.Bits.{verifies}
 use Rattle.control.specs.Waits.{reached}
 use Rattle.control.specs.Supplies.{is_stopped}

@@ -4,7 +4,8 @@
 use Rattle.std.specs.Prelude.{ℕ, zero, suc, ◌*◌, ◌/◌, Bool, true, cond, ◌&&◌, List, map, eqb}
 use Rattle.std.specs.List.{range_with_len}
 use Rattle.time.specs.declared.Time.{Time}
-use Rattle.cell.specs.Cell.{page_bytes, pages, at}
+use Rattle.lists.specs.Lists.{at}
+use Rattle.cell.specs.Cell.{page_bytes, pages}
 use Rattle.registers.specs.declared.Pulse.{Pulse}
 use Rattle.settle.specs.Pages.{cell_at}
 use Rattle.settle.specs.Settling.{ruled}

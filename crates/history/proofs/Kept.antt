@@ -10,7 +10,7 @@ use borrow.Author.Tests.{ltb-false}
 use lib.Dec.{ltb}
 use lib.ListN.{length, take, drop, length-append, length-take}
 use lib.Seq.{sets, sets-eq, length-sets, get_or-append-add, take_at}
-use Rattle.cell.specs.Cell.{at}
+use Rattle.lists.specs.Lists.{at}
 use Rattle.lists.proofs.Stores.{sets-append}
 use Rattle.lent.specs.Memory.{Memory}
 use Rattle.lent.specs.Asked.{Outcome}

@@ -18,7 +18,8 @@ use Rattle.control.specs.declared.PendingSense.{PendingSense}
 use Rattle.std.specs.Prelude.{Option, Some, None}
 use Rattle.registers.specs.declared.Registers.{Registers}
 use Rattle.flash.specs.declared.Flash.{Flash}
-use Rattle.cell.specs.Cell.{at, page_bytes, array_bytes}
+use Rattle.lists.specs.Lists.{at}
+use Rattle.cell.specs.Cell.{page_bytes, array_bytes}
 use Rattle.control.specs.Supplies.{supply_number, mode_number}
 use Rattle.settle.specs.Pages.{slots_sound}
 use Rattle.rows.specs.Rows.{row, row_in, packed, part, flag_known}

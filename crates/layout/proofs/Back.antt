@@ -15,7 +15,8 @@ use Rattle.control.specs.declared.PendingSense.{PendingSense}
 use Rattle.std.specs.Prelude.{Option, Some, None}
 use Rattle.registers.specs.declared.Registers.{Registers}
 use Rattle.flash.specs.declared.Flash.{Flash}
-use Rattle.cell.specs.Cell.{at, pages}
+use Rattle.lists.specs.Lists.{at}
+use Rattle.cell.specs.Cell.{pages}
 use Rattle.control.specs.Supplies.{supply_number, mode_number}
 use Rattle.rows.specs.Rows.{Fills, row_in}
 use Rattle.rows.proofs.Flags.{flag-fits, flag-back}

@@ -10,7 +10,8 @@ use Rattle.control.specs.declared.Supply.TheVariants.{Normal, Reduced, Stopped}
 use Rattle.control.specs.declared.PendingSense.{PendingSense}
 use Rattle.registers.specs.declared.Registers.{Registers}
 use Rattle.flash.specs.declared.Flash.{Flash}
-use Rattle.cell.specs.Cell.{at, page_bytes, pages, array_bytes}
+use Rattle.lists.specs.Lists.{at}
+use Rattle.cell.specs.Cell.{page_bytes, pages, array_bytes}
 use Rattle.rows.specs.Rows.{Field, row, size, packed, unpacked, begins, part, flag_byte, flag_of, flag_known}
 use Rattle.control.specs.Supplies.{supply_number, mode_number}
 use Rattle.settle.specs.Pages.{slots_sound}

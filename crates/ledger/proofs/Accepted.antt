@@ -11,7 +11,7 @@ use lib.Seq.{sets, sets-eq, take_at}
 use Rattle.refusal.specs.declared.Refusal.TheVariants as refused
 use Rattle.time.specs.declared.Time.{Time}
 use Rattle.time.specs.Raw.{raw, BeforeLastSecond}
-use Rattle.cell.specs.Cell.{at}
+use Rattle.lists.specs.Lists.{at}
 use Rattle.registers.specs.Pulses.{pulse}
 use Rattle.registers.specs.Calls.{settles}
 use Rattle.settle.specs.Settling.{range_bytes}

@@ -8,7 +8,8 @@ use Prim.Native.Nat.{ℕ, zero, suc, ◌<◌}
 use native.Mathlib.Omega.{arith}
 use lib.Dec.{eqb-suc-zero}
 use lib.ListN.{length}
-use Rattle.cell.specs.Cell.{array_bytes, at}
+use Rattle.lists.specs.Lists.{at}
+use Rattle.cell.specs.Cell.{array_bytes}
 use Rattle.registers.specs.Calls.{settles}
 use Rattle.settle.specs.Pages.{Cells}
 use Rattle.settle.specs.Settling.{normal_byte, changes, end_words}

@@ -13,7 +13,7 @@ use lib.ListN.{length}
 use Rattle.refusal.specs.declared.Refusal.TheVariants as refused
 use Rattle.time.specs.declared.Time.{Time}
 use Rattle.time.specs.Raw.{raw, instant}
-use Rattle.cell.specs.Cell.{at}
+use Rattle.lists.specs.Lists.{at}
 use Rattle.registers.specs.Pulses.{pulse, normal}
 use Rattle.registers.specs.Environment.{fresh}
 use Rattle.settle.specs.Pages.{cell_at}

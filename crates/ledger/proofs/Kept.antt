@@ -13,7 +13,7 @@ use Rattle.time.specs.declared.Time.{Time}
 use Rattle.time.specs.Raw.{instant, plus, micros, after, BeforeLastSecond}
 use Rattle.time.proofs.Laws.{micros-short, sum_fits}
 use Rattle.cell.specs.declared.Sense.{Sense}
-use Rattle.cell.specs.Cell.{at, mapi}
+use Rattle.lists.specs.Lists.{at, mapi}
 use Rattle.cell.proofs.Sensed.{sensed_byte-lt}
 use Rattle.control.specs.Bits.{verifies}
 use Rattle.control.specs.Verify.{sense_due}

@@ -8,7 +8,7 @@ use borrow.Author.Tests.{eq-eqb, not-false}
 use lib.ListN.{length}
 use Rattle.time.specs.declared.Time.{Time}
 use Rattle.time.specs.Raw.{BeforeLastSecond}
-use Rattle.cell.specs.Cell.{at}
+use Rattle.lists.specs.Lists.{at}
 use Rattle.registers.specs.declared.Call.{Call}
 use Rattle.registers.specs.declared.Pulse.{Pulse}
 use Rattle.registers.specs.Pulses.{pulse}

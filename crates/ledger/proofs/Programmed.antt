@@ -14,8 +14,9 @@ use lib.Seq.{ext_get_or, get_or-set_same, get_or-set_other}
 use Rattle.time.specs.Raw.{raw, span, instant, duration, micros, later, plus, after}
 use Rattle.time.proofs.Laws.{raw-instant, raw-after, micros-short}
 use Rattle.cell.specs.declared.Direction.TheVariants.{Program}
-use Rattle.cell.specs.Cell.{at, bit, class_of, limit_of, senses, sensed_cell, from_bits, sensed_byte, moved, exposed, page_bit}
-use Rattle.cell.proofs.Maps.{get_or-mapi}
+use Rattle.lists.specs.Lists.{at}
+use Rattle.cell.specs.Cell.{bit, class_of, limit_of, senses, sensed_cell, from_bits, sensed_byte, moved, exposed, page_bit}
+use Rattle.lists.proofs.Maps.{get_or-mapi}
 use Rattle.control.specs.Waits.{recovery_after, verify_ready_after}
 use Rattle.registers.specs.declared.Pulse.{Pulse}
 use Rattle.registers.specs.Access.{settled, control_set, register_set, write_register}

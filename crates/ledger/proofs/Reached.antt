@@ -9,7 +9,8 @@ use native.Mathlib.Omega.{arith}
 use lib.Dec.{eqb}
 use lib.ListN.{length, take}
 use lib.Seq.{sets, length-sets, length-take-le, get_or-take}
-use Rattle.cell.specs.Cell.{at, bit, FULL}
+use Rattle.lists.specs.Lists.{at}
+use Rattle.cell.specs.Cell.{bit, FULL}
 use Rattle.cell.proofs.Rule.{first_charge-full}
 use Rattle.settle.specs.Pages.{Cells, held, cell_at, opened}
 use Rattle.settle.proofs.Slots.{SlotsOf, opened-le}

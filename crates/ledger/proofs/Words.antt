@@ -11,7 +11,7 @@ use lib.Dec.{eqb}
 use lib.ListN.{length, set}
 use Rattle.std.specs.Prelude.{Option, Some, None}
 use Rattle.time.specs.declared.Time.{Time}
-use Rattle.cell.specs.Cell.{at}
+use Rattle.lists.specs.Lists.{at}
 use Rattle.registers.specs.declared.Registers.{Registers}
 use Rattle.registers.specs.declared.Pulse.{Pulse}
 use Rattle.registers.specs.declared.Call.{Call}

@@ -4,7 +4,8 @@
 -- Assumes nothing.
 use Rattle.std.specs.Prelude.{ℕ, suc, ◌+◌, ◌*◌, ◌<◌, ◌≡◌, true, false, List, length}
 use Rattle.time.specs.declared.Time.{Time}
-use Rattle.cell.specs.Cell.{array_bytes, array_cells, at}
+use Rattle.lists.specs.Lists.{at}
+use Rattle.cell.specs.Cell.{array_bytes, array_cells}
 use Rattle.registers.specs.Pulses.{normal}
 use Rattle.registers.specs.Calls.{settles}
 use Rattle.settle.specs.Pages.{cell_at}

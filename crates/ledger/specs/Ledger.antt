@@ -4,7 +4,8 @@
 use Rattle.std.specs.Prelude.{ℕ, ◌/◌, ◌%◌, Bool, true, false, List, [], ◌++◌, Option, Some, None}
 use Rattle.time.specs.declared.Time.{Time}
 use Rattle.time.specs.Raw.{instant}
-use Rattle.cell.specs.Cell.{at, bit, first_charge}
+use Rattle.lists.specs.Lists.{at}
+use Rattle.cell.specs.Cell.{bit, first_charge}
 use Rattle.registers.specs.declared.Registers.{Registers}
 use Rattle.registers.specs.declared.Call.{Call}
 use Rattle.registers.specs.Pulses.{pulse}

@@ -5,7 +5,8 @@ use Rattle.std.specs.Prelude.{ℕ, ◌<◌, ◌≡◌, true, false, List, ltb, l
 use Rattle.refusal.specs.declared.Refusal.TheVariants as refused
 use Rattle.refusal.specs.Refusal.{number}
 use Rattle.time.specs.declared.Time.{Time}
-use Rattle.cell.specs.Cell.{array_bytes, array_cells, at}
+use Rattle.lists.specs.Lists.{at}
+use Rattle.cell.specs.Cell.{array_bytes, array_cells}
 use Rattle.layout.specs.Layout.{decoded}
 use Rattle.lent.specs.Memory.{Memory, chip_in, misfits, last_second, too_early}
 use Rattle.snapshot.specs.Snapshot.{snapshot_of}

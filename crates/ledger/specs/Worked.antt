@@ -5,7 +5,8 @@ use Rattle.time.specs.declared.Time.{Time}
 use Rattle.time.specs.Raw.{raw, instant, after}
 use Rattle.cell.specs.declared.Sense.TheVariants.{Normal, ProgramVerify, EraseVerify}
 use Rattle.cell.specs.declared.Direction.TheVariants.{Program, Erase}
-use Rattle.cell.specs.Cell.{FULL, array_bytes, array_cells, at, class_of, limit_of, exposed}
+use Rattle.lists.specs.Lists.{at}
+use Rattle.cell.specs.Cell.{FULL, array_bytes, array_cells, class_of, limit_of, exposed}
 use Rattle.control.specs.Bits.{FENR, FLMCR1, EBR1, SWE, has}
 use Rattle.control.specs.Blocks.{erase_range}
 use Rattle.registers.specs.declared.Registers.{Registers}

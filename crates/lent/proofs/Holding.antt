@@ -12,7 +12,7 @@ use Rattle.refusal.specs.Refusal.{number, told, Answers}
 use Rattle.refusal.proofs.Outcomes.{number-some}
 use Rattle.std.specs.Prelude.{Result, Ok, Err, IfOk, OnOk}
 use Rattle.time.specs.declared.Time.{Time}
-use Rattle.cell.specs.Cell.{at}
+use Rattle.lists.specs.Lists.{at}
 use Rattle.flash.specs.declared.Answer.{Answer}
 use Rattle.flash.specs.declared.Flash.{Flash}
 use Rattle.flash.specs.Chip.{Chip, chip, Fit, Performed}

@@ -1,7 +1,7 @@
 // Lent memory is opened once: its lengths and its record are tested, and the state that the record holds is read.
 ghost use Rattle.std.specs.Prelude.{ℕ, ◌≡◌, ◌<◌, ◌≤◌, IfOk, OnOk};
 ghost use Rattle.refusal.specs.Refusal.{told, Answers};
-ghost use Rattle.cell.specs.Cell.{at};
+ghost use Rattle.lists.specs.Lists.{at};
 ghost use Rattle.layout.specs.Layout.{decoded};
 ghost use Rattle.lent.specs.Memory.{misfits};
 ghost use Rattle.lent.specs.Looked.{size_refusal, register_refusal, memory_refusal, look_refusal, output_refusal};

@@ -2,7 +2,8 @@
 -- after the other are one list of calls, and demand 3 holds after any of them.
 -- Assumes nothing.
 use Rattle.std.specs.Prelude.{ℕ, ◌+◌, ◌^◌, ◌≤◌, ◌<◌, ◌≡◌, false, List, [], ◌∷◌, ◌++◌, length}
-use Rattle.cell.specs.Cell.{array_bytes, array_cells, at}
+use Rattle.lists.specs.Lists.{at}
+use Rattle.cell.specs.Cell.{array_bytes, array_cells}
 use Rattle.lent.specs.declared.Request.{Request}
 use Rattle.lent.specs.Memory.{Memory}
 use Rattle.ledger.specs.Lists.{Asked, asked, Numbers, Typed, new_memory, memory_after, events_of}

@@ -3,3 +3,6 @@
 pub mod Bools
 pub mod Chunks
 pub mod Stores
+pub mod Maps
+pub mod Partly
+pub mod Table

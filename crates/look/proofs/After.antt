@@ -11,7 +11,8 @@ use lib.Seq.{get_or-take, get_or-drop, ext_get_or}
 use Rattle.std.specs.Prelude.{Option, Some, None, IfSome}
 use Rattle.time.specs.Raw.{span}
 use Rattle.cell.specs.declared.Sense.TheVariants.{Normal}
-use Rattle.cell.specs.Cell.{at, sensed_byte}
+use Rattle.lists.specs.Lists.{at}
+use Rattle.cell.specs.Cell.{sensed_byte}
 use Rattle.registers.specs.declared.Pulse.{Pulse}
 use Rattle.settle.specs.declared.cells.CellsRef.{CellsRef}
 use Rattle.settle.specs.declared.exposure.Exposure.{Exposure}

@@ -5,7 +5,7 @@ use Prim.Native.Nat.{ℕ, zero, suc}
 use native.Mathlib.Numerals.{add-one}
 use lib.Dec.{eqb}
 use Rattle.std.specs.List.{list_all, range_with_len}
-use Rattle.cell.specs.Cell.{at}
+use Rattle.lists.specs.Lists.{at}
 use Rattle.flash.specs.Looking.{all_blank}
 
 -- ---- n bytes from address a on, as a list of their addresses

@@ -2,7 +2,8 @@
 ghost use Rattle.std.specs.Prelude.{◌≡◌, true, ◌<◌, ◌≤◌, ◌+◌, ◌-◌, ◌*◌, ◌/◌, length, take, drop, Some};
 ghost use Rattle.std.proofs.lemmas.List.Edits.{sets};
 ghost use Rattle.cell.specs.declared.Sense.TheVariants.{Normal};
-ghost use Rattle.cell.specs.Cell.{array_bytes, page_bytes, pages, at};
+ghost use Rattle.lists.specs.Lists.{at};
+ghost use Rattle.cell.specs.Cell.{array_bytes, page_bytes, pages};
 ghost use Rattle.settle.specs.Settling.{covers};
 ghost use Rattle.settle.specs.Views.{cells_in, after_exposure};
 ghost use Rattle.flash.specs.Looking.{all_blank, peek_at, blank_at, image_at};

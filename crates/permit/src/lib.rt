@@ -3,7 +3,7 @@
 #![tactic(auto)]
 
 ghost use Rattle.std.specs.Prelude.{◌≡◌, true, false, suc, ◌+◌, ◌*◌, ◌<◌, length, MatchOption};
-ghost use Rattle.cell.specs.Cell.{at};
+ghost use Rattle.lists.specs.Lists.{at};
 ghost use Rattle.registers.specs.Pulses.{normal};
 ghost use Rattle.permit.specs.Permit.{shown};
 

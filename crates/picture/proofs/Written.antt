@@ -10,8 +10,8 @@ use borrow.Author.Tests.{lt-ltb, le-ltb}
 use lib.Dec.{ltb}
 use lib.ListN.{length, set, length-set}
 use lib.Seq.{get_or-set_same, get_or-set_other, ext_get_or}
-use Rattle.cell.specs.Cell.{at}
-use Rattle.cell.proofs.Maps.{length-mapi, get_or-mapi}
+use Rattle.lists.specs.Lists.{at}
+use Rattle.lists.proofs.Maps.{length-mapi, get_or-mapi}
 use Rattle.picture.specs.Outputs.{written}
 
 module _ (g : ℕ → ℕ) where

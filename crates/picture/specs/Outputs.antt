@@ -1,7 +1,7 @@
 -- A look that writes its answer to lent bytes: what it leaves there. Its refusal is `lent` Looked: `output_refusal`.
 -- Assumes nothing.
 use Rattle.std.specs.Prelude.{ℕ, zero, suc, cond, List, ltb}
-use Rattle.cell.specs.Cell.{mapi}
+use Rattle.lists.specs.Lists.{mapi}
 
 -- the first n bytes are g 0, g 1, ..; bytes past them stay
 unfoldable pub written : (ℕ → ℕ) → ℕ → List ℕ → List ℕ

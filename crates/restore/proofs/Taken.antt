@@ -8,7 +8,8 @@ use borrow.Author.Tests.{lt-ltb, le-ltb}
 use lib.ListN.{length, take}
 use lib.Seq.{sets}
 use Rattle.time.specs.declared.Time.{Time}
-use Rattle.cell.specs.Cell.{at, pages, array_bytes}
+use Rattle.lists.specs.Lists.{at}
+use Rattle.cell.specs.Cell.{pages, array_bytes}
 use Rattle.flash.specs.declared.Flash.{Flash}
 use Rattle.flash.specs.Chip.{no_pages}
 use Rattle.layout.specs.Layout.{encoded}

@@ -8,7 +8,7 @@ use native.Mathlib.Omega.{arith}
 use lib.ListN.{length, take, drop, length-append, take-append-drop}
 use lib.Seq.{take-add, drop-drop, drop-length}
 use lib.Dec.{lit<}
-use Rattle.cell.specs.Cell.{at}
+use Rattle.lists.specs.Lists.{at}
 use Rattle.rows.specs.Rows.{Field, RowFits, Fills, bytes, row, row_bytes, size, packed, unpacked, part, field, begins, row_in}
 use Rattle.rows.proofs.Widths.{length-bytes, word-shift, word_bytes, bytes_word, bytes_small, word_small}
 

@@ -8,8 +8,8 @@ use native.Mathlib.Numerals.{add-one}
 use native.Mathlib.Omega.{arith}
 use lib.ListN.{length, get_or, set, take}
 use lib.Seq.{take_all, take-suc, take-suc-set}
-use Rattle.cell.specs.Cell.{mapi}
-use Rattle.cell.proofs.Partly.{partly, partly-turn, partly-all}
+use Rattle.lists.specs.Lists.{mapi}
+use Rattle.lists.proofs.Partly.{partly, partly-turn, partly-all}
 use Rattle.rows.specs.Rows.{Field, word, bytes, row, row_bytes, field, begins}
 
 -- ---- reading

@@ -8,7 +8,7 @@ use native.Mathlib.Omega.{arith}
 use lib.ListN.{length, take, drop}
 use lib.Dec.{lit<}
 use lib.Seq.{drop-cons, get_or-append-add}
-use Rattle.cell.specs.Cell.{at}
+use Rattle.lists.specs.Lists.{at}
 use Rattle.rows.specs.Rows.{word, bytes}
 
 -- ---- one byte

@@ -2,7 +2,7 @@
 -- Records are made of these.
 -- Assumes nothing.
 use Rattle.std.specs.Prelude.{ℕ, zero, suc, ◌+◌, ◌*◌, ◌/◌, ◌%◌, ◌^◌, ◌<◌, ◌≡◌, List, [], ◌∷◌, ◌++◌, Bool, true, false, get_or, length, leb, eqb}
-use Rattle.cell.specs.Cell.{at}
+use Rattle.lists.specs.Lists.{at}
 
 -- ---- numbers as bytes
 

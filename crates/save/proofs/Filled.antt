@@ -16,7 +16,7 @@ use lib.Seq.{take_all, drop-cons, get_or-append_seam, get_or-set_same, get_or-se
 use Rattle.std.proofs.lemmas.List.{length_push, length-append, drop-drop}
 use Rattle.std.specs.List.{push}
 use Rattle.std.specs.Simd.{first_chunks}
-use Rattle.cell.specs.Cell.{at}
+use Rattle.lists.specs.Lists.{at}
 use Rattle.settle.specs.Pages.{opened, slots_sound}
 use Rattle.settle.proofs.Slots.{slots-from}
 use Rattle.rows.specs.Rows.{bytes, row_bytes}

@@ -3,7 +3,8 @@
 #![tactic(auto)]
 
 ghost use Rattle.std.specs.Prelude.{◌≡◌, [], ◌++◌, ℕ, suc, ◌+◌, ◌*◌, ◌<◌, ◌≤◌, length, take};
-ghost use Rattle.cell.specs.Cell.{at, pages};
+ghost use Rattle.lists.specs.Lists.{at};
+ghost use Rattle.cell.specs.Cell.{pages};
 ghost use Rattle.settle.specs.Pages.{opened};
 ghost use Rattle.layout.specs.Layout.{option_byte};
 ghost use Rattle.flash.specs.Views.{chip_of};

@@ -2,7 +2,7 @@
 use Rattle.std.proofs.Common.{◌≡◌, ℕ, ◌+◌, ◌≤◌, Bool, true, false, cond, eqb, List, length, arith}
 use lib.Dec.{lit≤}
 use borrow.Author.Tests.{eq-eqb}
-use Rattle.cell.specs.Cell.{at}
+use Rattle.lists.specs.Lists.{at}
 use Rattle.snapshot.specs.Places.{state_length}
 
 pub state-least : (xs : List ℕ) (place : ℕ) → 256 ≤ state_length xs place

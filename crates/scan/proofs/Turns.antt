@@ -5,7 +5,8 @@ use Rattle.std.proofs.Common.{◌≡◌, ℕ, zero, suc, ◌+◌, ◌-◌, ◌*�
 use Rattle.std.specs.Prelude.{Result, Ok, Err, OnOk}
 use borrow.Author.Tests.{lt-leb}
 use Rattle.std.proofs.lemmas.Bool.{and_parts}
-use Rattle.cell.specs.Cell.{at, page_bytes, page_cells, pages, array_bytes}
+use Rattle.lists.specs.Lists.{at}
+use Rattle.cell.specs.Cell.{page_bytes, page_cells, pages, array_bytes}
 use Rattle.flash.specs.Chip.{no_pages}
 use Rattle.rows.specs.Rows.{word}
 use Rattle.layout.specs.Layout.{placed}

@@ -1,6 +1,7 @@
 // The ceilings of 256 cells, worked out once for all that they sense.
 ghost use Rattle.std.specs.Prelude.{◌≡◌, ◌-◌, ◌<◌, ◌≤◌};
-ghost use Rattle.cell.specs.Cell.{ceiling_of, ceiling_table, tabulate, sensed_byte, sensed_page, page_bytes, array_bytes, at};
+ghost use Rattle.lists.specs.Lists.{tabulate, at};
+ghost use Rattle.cell.specs.Cell.{ceiling_of, ceiling_table, sensed_byte, sensed_page, page_bytes, array_bytes};
 
 use cell::classes::classes;
 use cell::{PAGE, PAGE_CELLS, Sense};

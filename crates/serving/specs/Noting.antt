@@ -1,7 +1,7 @@
 -- Calls that are noted at once: those before the last gave no event words, read nothing and were not refused, so they only count.
 -- Assumes nothing.
 use Rattle.std.specs.Prelude.{ℕ, ◌-◌, cond, List, eqb}
-use Rattle.cell.specs.Cell.{at}
+use Rattle.lists.specs.Lists.{at}
 use Rattle.lent.specs.Asked.{Outcome}
 use Rattle.listing.specs.Calls.{asking_at}
 use Rattle.course.specs.declared.Course.{Course}

@@ -2,7 +2,8 @@
 -- memory that there was before. Assumes nothing.
 use Rattle.std.specs.Prelude.{ℕ, ◌<◌, ◌≡◌, List, length}
 use Rattle.time.specs.declared.Time.{Time}
-use Rattle.cell.specs.Cell.{array_bytes, array_cells, at}
+use Rattle.lists.specs.Lists.{at}
+use Rattle.cell.specs.Cell.{array_bytes, array_cells}
 use Rattle.lent.specs.Memory.{Memory}
 use Rattle.ledger.specs.Lists.{Asked}
 use Rattle.ledger.specs.Claim.{Good, Demand}

@@ -16,8 +16,9 @@ use Rattle.time.specs.declared.Time.{Time}
 use Rattle.time.specs.Raw.{raw}
 use Rattle.time.proofs.Laws.{raw-later}
 use Rattle.cell.specs.declared.Sense.TheVariants.{Normal}
-use Rattle.cell.specs.Cell.{FULL, at, bit, first_charge, page_bit, exposed}
-use Rattle.cell.proofs.Maps.{length-mapi, get_or-mapi}
+use Rattle.lists.specs.Lists.{at}
+use Rattle.cell.specs.Cell.{FULL, bit, first_charge, page_bit, exposed}
+use Rattle.lists.proofs.Maps.{length-mapi, get_or-mapi}
 use Rattle.cell.proofs.Rule.{exposures-add, exposed-full}
 use Rattle.cell.proofs.Sensed.{sensed_byte-same, sensed_byte-lt}
 use Rattle.registers.specs.declared.Pulse.{Pulse}

@@ -10,8 +10,10 @@ use borrow.Author.Tests.{eqb-true, eq-eqb}
 use lib.ListN.{length, set, drop}
 use lib.Seq.{ext_get_or, set-get_or}
 use lib.Dec.{eqb}
-use Rattle.cell.specs.Cell.{at, bit, first_charge, page_bit, exposed, on_slot, opened_slot, charged_slot}
-use Rattle.cell.proofs.Maps.{get_or-mapi, mapi-same, length-on_slot}
+use Rattle.lists.specs.Lists.{at}
+use Rattle.cell.specs.Cell.{bit, first_charge, page_bit, exposed, on_slot, opened_slot, charged_slot}
+use Rattle.lists.proofs.Maps.{get_or-mapi, mapi-same}
+use Rattle.cell.proofs.OnSlot.{length-on_slot}
 use Rattle.registers.specs.declared.Pulse.{Pulse}
 use Rattle.settle.specs.Pages.{Cells, held, cell_at, opened, slot_of, slot_for, on_page, on_pages}
 use Rattle.settle.specs.Settling.{charged, change, changes}

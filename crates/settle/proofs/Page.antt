@@ -9,8 +9,8 @@ use native.Mathlib.Omega.{arith}
 use native.Mathlib.Decide.{dec_lt, ℕ_discrete}
 use lib.ListN.{set, length-set}
 use lib.Seq.{get_or-set_same, get_or-set_other, set-get_or, set_out}
-use Rattle.cell.specs.Cell.{at}
-use Rattle.cell.proofs.Maps.{length-on_slot, get_or-on_slot-inside, get_or-on_slot-outside}
+use Rattle.lists.specs.Lists.{at}
+use Rattle.cell.proofs.OnSlot.{length-on_slot, get_or-on_slot-inside, get_or-on_slot-outside}
 use Rattle.settle.specs.Pages.{Cells, held, cell_at, opened, slot_of, slot_for, on_page}
 use Rattle.settle.proofs.Slots.{SlotsOf, opened-le, opened-set, next-lt}
 

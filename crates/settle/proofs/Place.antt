@@ -12,8 +12,8 @@ use lib.ListN.{length, set, drop, length-set, length-drop, get_or-eq_default}
 use lib.Seq.{ext_get_or, get_or-set_same, get_or-set_other, get_or-drop}
 use lib.Dec.{leb, ltb, eqb}
 use Rattle.registers.specs.declared.Pulse.{Pulse}
-use Rattle.cell.specs.Cell.{at, mapi}
-use Rattle.cell.proofs.Maps.{length-mapi, get_or-mapi, mapi-same}
+use Rattle.lists.specs.Lists.{at, mapi}
+use Rattle.lists.proofs.Maps.{length-mapi, get_or-mapi, mapi-same}
 use Rattle.settle.specs.Settling.{covers, normal_byte, resensed, spanned, change, changes}
 
 -- an element that the rule keeps, past the end too

@@ -8,7 +8,7 @@ use native.Mathlib.Omega.{arith}
 use native.Mathlib.Decide.{ℕ_discrete}
 use lib.ListN.{set}
 use lib.Seq.{get_or-set_same, get_or-set_other}
-use Rattle.cell.specs.Cell.{at}
+use Rattle.lists.specs.Lists.{at}
 use Rattle.settle.specs.Pages.{Cells, cell_at, slot_for, on_page, on_pages}
 use Rattle.settle.proofs.Slots.{SlotsOf}
 use Rattle.settle.proofs.Page.{page-here, page-else, page-slots}

@@ -10,7 +10,7 @@ use borrow.Author.Tests.{leb-true, le-leb, eqb-true, eq-eqb}
 use lib.ListN.{length, set}
 use lib.Dec.{leb, eqb, eqb-suc-zero}
 use Rattle.std.proofs.lemmas.Bool.{and_parts}
-use Rattle.cell.specs.Cell.{at}
+use Rattle.lists.specs.Lists.{at}
 use Rattle.settle.specs.Pages.{Cells, opened, holds, distinct, within, slots_sound}
 
 pub record Slots (index charges : List ℕ) : Type 0 where

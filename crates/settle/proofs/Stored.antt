@@ -10,7 +10,7 @@ use borrow.Author.Tests.{ne_eqb}
 use lib.ListN.{length, set, take, drop, length-append, take-append-drop}
 use lib.Seq.{sets, length-sets, set-get_or, get_or-take, ext_get_or, length-take-le}
 use Rattle.lists.proofs.Stores.{sets-append}
-use Rattle.cell.specs.Cell.{at}
+use Rattle.lists.specs.Lists.{at}
 use Rattle.settle.specs.Settling.{spanned, changes, word, byte_kind}
 use Rattle.settle.proofs.Loop.{changes-same, changes-append, changes-set}
 use Rattle.settle.proofs.Place.{length-spanned, spanned-same, spanned-low, spanned-high, spanned-none, spanned-rest, spanned-suc, spanned-join, changes-count}

@@ -11,8 +11,8 @@ use borrow.Author.Tests.{eq-eqb, ne_eqb}
 use lib.ListN.{length, set, length-set}
 use lib.Seq.{get_or-set_same, get_or-set_other, ext_get_or}
 use native.Mathlib.Decide.{ℕ_discrete}
-use Rattle.cell.specs.Cell.{at, mapi}
-use Rattle.cell.proofs.Maps.{length-mapi, get_or-mapi}
+use Rattle.lists.specs.Lists.{at, mapi}
+use Rattle.lists.proofs.Maps.{length-mapi, get_or-mapi}
 use Rattle.control.specs.Blocks.{block_of}
 use Rattle.settle.specs.Words.{kind_in, address_in}
 use Rattle.settle.specs.Tallies.{ends_there, end_count, raised, counted}

@@ -10,7 +10,8 @@ use native.Mathlib.Omega.{arith}
 use lib.ListN.{length}
 use lib.Seq.{sets, get_or-set_same}
 use Rattle.cell.specs.declared.Sense.TheVariants.{Normal}
-use Rattle.cell.specs.Cell.{at, sensed_byte}
+use Rattle.lists.specs.Lists.{at}
+use Rattle.cell.specs.Cell.{sensed_byte}
 use Rattle.cell.proofs.Sensed.{sensed_byte-same}
 use Rattle.registers.specs.declared.Pulse.{Pulse}
 use Rattle.settle.specs.Pages.{Cells, cell_at, opened, slot_for, on_page, on_pages}

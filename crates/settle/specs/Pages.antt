@@ -1,7 +1,8 @@
 -- Pages and slots: where a cell's charge stands, and which slot a page takes. Document 01, "Cells and sensing".
 -- Assumes nothing.
 use Rattle.std.specs.Prelude.{ℕ, zero, suc, ◌+◌, ◌*◌, ◌/◌, ◌%◌, Bool, true, false, not, ◌&&◌, ◌||◌, List, [], ◌∷◌, set, leb, eqb}
-use Rattle.cell.specs.Cell.{page_cells, at, bit, first_charge, on_slot}
+use Rattle.lists.specs.Lists.{at}
+use Rattle.cell.specs.Cell.{page_cells, bit, first_charge, on_slot}
 
 -- What charges are read from: the page index, the stored array and the charge store. An entry of the index is 0 for a page without
 -- charges, and slot + 1 for a page with some.

@@ -9,7 +9,8 @@ use Rattle.cell.specs.declared.Direction.{Direction}
 use Rattle.cell.specs.declared.Direction.TheVariants.{Program, Erase}
 use Rattle.cell.specs.declared.Sense.{Sense}
 use Rattle.cell.specs.declared.Sense.TheVariants.{Normal, ProgramVerify, EraseVerify}
-use Rattle.cell.specs.Cell.{page_bytes, page_cells, mapi, tabulate, sensed_byte, exposed, page_bit}
+use Rattle.lists.specs.Lists.{mapi, tabulate}
+use Rattle.cell.specs.Cell.{page_bytes, page_cells, sensed_byte, exposed, page_bit}
 use Rattle.control.specs.declared.PendingSense.{PendingSense}
 use Rattle.control.specs.Bits.{EV, low, verifies}
 use Rattle.control.specs.Blocks.{covers as in_range}

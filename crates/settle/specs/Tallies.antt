@@ -1,7 +1,8 @@
 -- Pulses by block: how many end events of each kind have their first address in it. Document 01, under "Order of checking": kinds 2
 -- completed, 3 interrupted. Assumes nothing.
 use Rattle.std.specs.Prelude.{ℕ, ◌+◌, ◌-◌, ◌/◌, ◌^◌, min, Bool, false, cond, ◌&&◌, List, [], ◌∷◌, Option, None, Some, eqb}
-use Rattle.cell.specs.Cell.{page_bytes, mapi}
+use Rattle.lists.specs.Lists.{mapi}
+use Rattle.cell.specs.Cell.{page_bytes}
 use Rattle.control.specs.Blocks.{block_of}
 use Rattle.registers.specs.declared.Ending.TheVariants.{Completed, Interrupted}
 use Rattle.registers.specs.Calls.{ending_number}

@@ -22,7 +22,7 @@ pub struct CellsRef<'a> {
 
 impl CellsRef<'_> {
     ghost use Rattle.std.specs.Prelude.{◌<◌, ◌+◌, ◌*◌};
-    ghost use Rattle.cell.specs.Cell.{tabulate};
+    ghost use Rattle.lists.specs.Lists.{tabulate};
     ghost use Rattle.settle.specs.Pages.{cell_at};
     ghost use Rattle.settle.specs.Views.{cells_in};
 

@@ -6,7 +6,8 @@ pub mod tallies;
 
 ghost use Rattle.std.specs.Prelude.{◌≡◌, ◌<◌, ◌≤◌, ◌+◌, ◌*◌, ◌-◌, IfSome, length};
 ghost use Rattle.std.proofs.lemmas.List.Edits.{sets};
-ghost use Rattle.cell.specs.Cell.{array_bytes, page_bytes, page_cells, pages, at, sensed_byte};
+ghost use Rattle.lists.specs.Lists.{at};
+ghost use Rattle.cell.specs.Cell.{array_bytes, page_bytes, page_cells, pages, sensed_byte};
 ghost use Rattle.registers.specs.Calls.{ending_number};
 ghost use Rattle.settle.specs.Settling.{settled_by, spanned, changes, byte_kind, word, range_bytes, range_end};
 ghost use Rattle.settle.specs.Views.{after_exposure, cells_at, SameCells, LeavesCells};

@@ -13,7 +13,8 @@ use lib.Seq.{sets, sets-eq, length-sets}
 use Rattle.std.proofs.lemmas.Bool.{and_parts}
 use Rattle.time.specs.declared.Time.{Time}
 use Rattle.time.specs.Raw.{raw}
-use Rattle.cell.specs.Cell.{at, FULL, page_bytes, pages, array_bytes, array_cells}
+use Rattle.lists.specs.Lists.{at}
+use Rattle.cell.specs.Cell.{FULL, page_bytes, pages, array_bytes, array_cells}
 use Rattle.control.specs.declared.PendingSense.{PendingSense}
 use Rattle.std.specs.Prelude.{Option, Some, None}
 use Rattle.settle.specs.Pages.{opened, slots_sound}

@@ -10,7 +10,7 @@ use borrow.Author.Tests.{ltb-true, ltb-false, lt-ltb, le-ltb, le-leb}
 use lib.ListN.{length, drop, length-drop}
 use lib.Seq.{drop-drop, get_or-drop}
 use lib.Dec.{ltb, leb, leb-suc-suc}
-use Rattle.cell.specs.Cell.{at}
+use Rattle.lists.specs.Lists.{at}
 use Rattle.rows.specs.Rows.{word, row, flag_of}
 use Rattle.rows.proofs.Widths.{word-one}
 use Rattle.std.specs.Prelude.{Some, None}

@@ -4,7 +4,8 @@ use mathlib.Core.Bool.{true, false}
 use mathlib.Core.List.{List}
 use Prim.Native.Nat.{ℕ, ◌≤◌}
 use lib.ListN.{length}
-use Rattle.cell.specs.Cell.{at, FULL, page_bytes, page_cells}
+use Rattle.lists.specs.Lists.{at}
+use Rattle.cell.specs.Cell.{FULL, page_bytes, page_cells}
 use Rattle.settle.specs.Pages.{holds}
 use Rattle.layout.specs.Layout.{placed}
 use Rattle.borsh.proofs.Laws.{Each}

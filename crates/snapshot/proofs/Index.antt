@@ -13,7 +13,8 @@ use borrow.Author.Tests.{eqb-true, eq-eqb, ne_eqb}
 use lib.ListN.{length, take, drop, set, length-append, length-take, length-drop, length-set, length-reverse, replicate, length-replicate, get_or-eq_default}
 use lib.Seq.{sets, sets-eq, ext_get_or, get_or-set_same, get_or-set_other, get_or-take, get_or-drop, take-add, drop-drop, take_at, drop_at}
 use lib.Dec.{eqb, eqb-suc-zero}
-use Rattle.cell.specs.Cell.{at, FULL, pages, page_bytes}
+use Rattle.lists.specs.Lists.{at}
+use Rattle.cell.specs.Cell.{FULL, pages, page_bytes}
 use Rattle.settle.specs.Pages.{opened, on_page, holds, slots_sound}
 use Rattle.settle.proofs.Slots.{Slots, opened-le, opened-set, slots-from, slots-sound}
 use Rattle.settle.proofs.Page.{slot_next, page-slots}

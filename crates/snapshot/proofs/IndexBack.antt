@@ -10,7 +10,7 @@ use lib.ListN.{length, length-set}
 use Rattle.std.specs.Prelude.{Option, Some, None}
 use Rattle.lists.proofs.Bools.{either}
 use Rattle.time.specs.declared.Time.{Time}
-use Rattle.cell.specs.Cell.{at}
+use Rattle.lists.specs.Lists.{at}
 use Rattle.control.specs.Bits.{FENR, FLMCR1, FLPWCR, EBR1, SWE, has, low, verifies}
 use Rattle.control.specs.Waits.{reached}
 use Rattle.control.specs.Verify.{sense_due}

@@ -10,7 +10,8 @@ use borrow.Author.Tests.{eqb-true, eqb-false, eq-eqb, ne_eqb}
 use lib.ListN.{length, set, drop, length-set, replicate, length-replicate, get_or-replicate}
 use lib.Seq.{get_or-set_same, get_or-set_other}
 use lib.Dec.{ltb, leb, eqb}
-use Rattle.cell.specs.Cell.{at, FULL, page_bytes, page_cells, pages}
+use Rattle.lists.specs.Lists.{at}
+use Rattle.cell.specs.Cell.{FULL, page_bytes, page_cells, pages}
 use Rattle.settle.specs.Pages.{holds}
 use Rattle.flash.specs.Chip.{no_pages}
 use Rattle.rows.specs.Rows.{word, row}

@@ -12,7 +12,7 @@ use native.Mathlib.Decide.{ℕ_discrete}
 use borrow.Author.Tests.{eqb-true, eq-eqb}
 use lib.ListN.{length, set}
 use lib.Dec.{eqb}
-use Rattle.cell.specs.Cell.{at}
+use Rattle.lists.specs.Lists.{at}
 use Rattle.settle.specs.Pages.{opened}
 use Rattle.settle.proofs.Slots.{Slots}
 use Rattle.snapshot.specs.Snapshot.{place_of}

@@ -12,7 +12,8 @@ use lib.ListN.{length, take, drop, length-drop}
 use lib.Seq.{drop-cons}
 use lib.Dec.{ltb, leb}
 use Rattle.time.specs.declared.Time.{Time}
-use Rattle.cell.specs.Cell.{at, pages, array_bytes}
+use Rattle.lists.specs.Lists.{at}
+use Rattle.cell.specs.Cell.{pages, array_bytes}
 use Rattle.flash.specs.Chip.{no_pages}
 use Rattle.rows.specs.Rows.{row}
 use Rattle.rows.proofs.Widths.{word-one}

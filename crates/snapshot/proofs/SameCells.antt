@@ -10,8 +10,9 @@ use lib.ListN.{length}
 use lib.Seq.{set_out}
 use Rattle.std.specs.Prelude.{Option, Some, None}
 use Rattle.time.specs.declared.Time.{Time}
-use Rattle.cell.specs.Cell.{at, on_slot}
-use Rattle.cell.proofs.Maps.{length-on_slot, get_or-on_slot-inside, get_or-on_slot-outside}
+use Rattle.lists.specs.Lists.{at}
+use Rattle.cell.specs.Cell.{on_slot}
+use Rattle.cell.proofs.OnSlot.{length-on_slot, get_or-on_slot-inside, get_or-on_slot-outside}
 use Rattle.registers.specs.declared.Registers.{Registers}
 use Rattle.registers.specs.declared.Pulse.{Pulse}
 use Rattle.settle.specs.Pages.{Cells, held, cell_at, opened, slot_for, on_page, on_pages}

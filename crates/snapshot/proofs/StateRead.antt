@@ -11,7 +11,7 @@ use Rattle.time.specs.Raw.{raw, instant}
 use Rattle.time.proofs.Laws.{instant-raw}
 use Rattle.control.specs.declared.PendingSense.{PendingSense}
 use Rattle.std.specs.Prelude.{Option, Some, None}
-use Rattle.cell.specs.Cell.{at}
+use Rattle.lists.specs.Lists.{at}
 use Rattle.rows.specs.Rows.{word, row, flag_of}
 use Rattle.layout.specs.Layout.{supply_of, mode_of}
 use Rattle.rows.proofs.Widths.{word_split, word_small}

@@ -6,7 +6,8 @@ use Rattle.std.proofs.lemmas.List.Edits.{sets}
 use Rattle.refusal.specs.declared.Refusal.TheVariants as refused
 use Rattle.refusal.specs.Refusal.{number}
 use Rattle.time.specs.declared.Time.{Time}
-use Rattle.cell.specs.Cell.{at, FULL, page_cells}
+use Rattle.lists.specs.Lists.{at}
+use Rattle.cell.specs.Cell.{FULL, page_cells}
 use Rattle.settle.specs.Pages.{opened}
 use Rattle.layout.specs.Layout.{decoded, refused3}
 use Rattle.lent.specs.declared.Request.{Request}

@@ -8,7 +8,8 @@ use Rattle.time.specs.declared.Time.{Time}
 use Rattle.control.specs.declared.PendingSense.{PendingSense}
 use Rattle.refusal.specs.declared.Refusal.TheVariants as refused
 use Rattle.refusal.specs.Refusal.{number}
-use Rattle.cell.specs.Cell.{at, FULL, page_bytes, page_cells, pages, array_bytes}
+use Rattle.lists.specs.Lists.{at}
+use Rattle.cell.specs.Cell.{FULL, page_bytes, page_cells, pages, array_bytes}
 use Rattle.registers.specs.declared.Registers.{Registers}
 use Rattle.flash.specs.declared.Flash.{Flash}
 use Rattle.flash.specs.Chip.{no_pages}

@@ -3,7 +3,8 @@
 -- Assumes nothing.
 use Rattle.std.specs.Prelude.{ℕ, zero, suc, ◌+◌, ◌-◌, ◌*◌, ◌<◌, Bool, cond, not, ◌||◌, List, [], ◌∷◌, ◌++◌, eqb, leb, get_or, take, drop, Option, None, Some}
 use Rattle.std.specs.Borrow.{MutBor}
-use Rattle.cell.specs.Cell.{page_bytes, pages, at}
+use Rattle.lists.specs.Lists.{at}
+use Rattle.cell.specs.Cell.{page_bytes, pages}
 use Rattle.control.specs.Blocks.{blocks, block_range}
 use Rattle.settle.specs.declared.tally.Tally.{Tally}
 use Rattle.flash.specs.declared.PageState.{PageState}

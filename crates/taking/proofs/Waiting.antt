@@ -8,7 +8,7 @@ use native.Mathlib.Omega.{arith}
 use lib.ListN.{length, set}
 use lib.Seq.{sets, get_or-set_same, get_or-set_other}
 use Rattle.time.specs.declared.Time.{Time}
-use Rattle.cell.specs.Cell.{at}
+use Rattle.lists.specs.Lists.{at}
 use Rattle.lent.specs.declared.Request.{Request}
 use Rattle.std.specs.Prelude.{Option}
 use Rattle.time.specs.declared.Time.{Time}

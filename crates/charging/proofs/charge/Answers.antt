@@ -7,10 +7,11 @@ use mathlib.Core.Path.{◌≡◌, sym, ◌∙◌}
 use native.Mathlib.Nat.{add-zero}
 use native.Mathlib.Omega.{arith}
 use Rattle.time.specs.Raw.{span}
-use Rattle.cell.specs.Cell.{at, mapi, rate, page_bit, charged_page}
+use Rattle.lists.specs.Lists.{at, mapi}
+use Rattle.cell.specs.Cell.{rate, page_bit, charged_page}
 use Rattle.cell.specs.declared.Direction.{Direction}
-use Rattle.cell.proofs.Maps.{mapi-same}
-use Rattle.cell.proofs.Partly.{partly-turn, partly-all}
+use Rattle.lists.proofs.Maps.{mapi-same}
+use Rattle.lists.proofs.Partly.{partly-turn, partly-all}
 use Rattle.charging.proofs.Bytes.{cell-bit}
 use Rattle.cell.proofs.Rule.{clipped-exposes}
 use Rattle.charging.proofs.charge.Invariants.{ruled}

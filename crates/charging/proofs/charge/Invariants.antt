@@ -6,7 +6,7 @@ use mathlib.Core.List.{List}
 use mathlib.Core.Path.{◌≡◌}
 use Rattle.cell.specs.Cell.{moved, page_bit}
 use Rattle.cell.specs.declared.Direction.{Direction}
-use Rattle.cell.proofs.Partly.{partly}
+use Rattle.lists.proofs.Partly.{partly}
 use Rattle.charging.proofs.Bytes.{Further}
 use Rattle.charging.proofs.charge.Given as goal
 

@@ -6,7 +6,7 @@ use mathlib.Core.Path.{◌≡◌, sym, ◌∙◌}
 use native.Mathlib.Nat.{add-zero}
 use native.Mathlib.Omega.{arith}
 use Rattle.cell.specs.Cell.{opened_page}
-use Rattle.cell.proofs.Partly.{partly-turn, partly-all}
+use Rattle.lists.proofs.Partly.{partly-turn, partly-all}
 use Rattle.charging.proofs.Bytes.{cell-bit}
 use Rattle.charging.proofs.open.Invariants.{first}
 use Rattle.charging.proofs.open.Goals as goal

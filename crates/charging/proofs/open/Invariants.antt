@@ -5,7 +5,7 @@ use Prim.Native.Nat.{ℕ, ◌+◌, ◌*◌}
 use mathlib.Core.List.{List}
 use mathlib.Core.Path.{◌≡◌}
 use Rattle.cell.specs.Cell.{page_bit, first_charge}
-use Rattle.cell.proofs.Partly.{partly}
+use Rattle.lists.proofs.Partly.{partly}
 use Rattle.charging.proofs.Bytes.{Further}
 use Rattle.charging.proofs.open.Given as goal
 

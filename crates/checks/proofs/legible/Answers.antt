@@ -2,7 +2,7 @@
 -- Assumes nothing.
 use Rattle.time.specs.declared.Time.{Time}
 use Rattle.settle.specs.Pages.{slots_sound}
-use Rattle.cell.specs.Cell.{at}
+use Rattle.lists.specs.Lists.{at}
 use Prim.Native.Nat.{ℕ}
 use mathlib.Core.Bool.{Bool, ◌&&◌}
 use mathlib.Core.List.{List, [], ◌∷◌}

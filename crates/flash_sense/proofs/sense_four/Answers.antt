@@ -6,8 +6,9 @@ use native.Mathlib.Omega.{arith}
 use lib.ListN.{length}
 use lib.Seq.{ext_get_or}
 use Rattle.cell.specs.declared.Sense.{Sense}
-use Rattle.cell.specs.Cell.{at, tabulate, sensed_byte}
-use Rattle.cell.proofs.Table.{entry}
+use Rattle.lists.specs.Lists.{at, tabulate}
+use Rattle.cell.specs.Cell.{sensed_byte}
+use Rattle.lists.proofs.Table.{entry}
 use Rattle.cell.proofs.Sensed.{sensed_byte-same}
 use Rattle.settle.specs.Pages.{Cells, cell_at}
 use Rattle.settle.specs.Settling.{four_sensed}

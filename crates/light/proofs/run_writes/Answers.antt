@@ -9,7 +9,7 @@ use mathlib.Core.List.{List, []}
 use Rattle.std.specs.Simd.{first_chunks}
 use Prim.Native.Nat.{ℕ, ◌+◌, ◌-◌, ◌*◌, ◌^◌, ◌<◌}
 use lib.ListN.{get_or}
-use Rattle.cell.specs.Cell.{at}
+use Rattle.lists.specs.Lists.{at}
 use Rattle.lists.proofs.Chunks.{chunk-at}
 use Rattle.light.proofs.run_writes.Goals as goal
 

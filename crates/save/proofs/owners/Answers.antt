@@ -4,7 +4,7 @@ use Rattle.settle.proofs.Slots.{entry-le}
 use mathlib.Core.List.{[], append-nil}
 use mathlib.Core.Path.{◌≡◌, refl, ◌∙◌}
 use Prim.Native.Nat.{suc}
-use Rattle.cell.specs.Cell.{at}
+use Rattle.lists.specs.Lists.{at}
 use lib.ListN.{length, length-set}
 use Rattle.save.proofs.Filled.{Owned, front-next, last-place, last-within, last-at, none_owned, slot-owned, closed-owned, all-owned}
 use native.Mathlib.Omega.{arith}

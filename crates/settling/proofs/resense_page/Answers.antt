@@ -7,9 +7,10 @@ use native.Mathlib.Omega.{arith}
 use lib.ListN.{length, get_or, replicate, length-replicate}
 use Rattle.std.specs.Simd.{first_chunks}
 use Rattle.cell.specs.declared.Sense.{Sense}
-use Rattle.cell.specs.Cell.{at, sensed_byte, sensed_page}
+use Rattle.lists.specs.Lists.{at}
+use Rattle.cell.specs.Cell.{sensed_byte, sensed_page}
 use Rattle.lists.proofs.Chunks.{chunk-at}
-use Rattle.cell.proofs.Maps.{get_or-mapi}
+use Rattle.lists.proofs.Maps.{get_or-mapi}
 use Rattle.cell.proofs.Sensed.{sensed_byte-same}
 use Rattle.settle.specs.Pages.{Cells}
 use Rattle.settle.proofs.Place.{spanned-same}

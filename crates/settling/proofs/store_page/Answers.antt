@@ -5,7 +5,7 @@ use Prim.Native.Nat.{ℕ, suc, ◌+◌, ◌-◌, ◌<◌}
 use native.Mathlib.Nat.{add-zero}
 use native.Mathlib.Omega.{arith}
 use lib.ListN.{length}
-use Rattle.cell.specs.Cell.{at}
+use Rattle.lists.specs.Lists.{at}
 use Rattle.settle.proofs.Stored.{Stored, stored-none, stored-length, stored-events, stored-le, stored_same, stored-changed}
 use Rattle.settling.proofs.store_page.Goals as goal
 use Rattle.settling.proofs.store_page.Goals.{then-old-value, else-old-value}

@@ -1,7 +1,7 @@
 -- `settling::store_page` meets its contract. The loop's invariant: the bytes passed are stored, with an event for each change.
 -- Assumes nothing.
 use Prim.Native.Nat.{◌+◌, ◌-◌, ◌≤◌}
-use Rattle.cell.specs.Cell.{at}
+use Rattle.lists.specs.Lists.{at}
 use Rattle.settle.proofs.Stored.{Stored}
 use Rattle.settling.proofs.store_page.Given as goal
 

@@ -5,7 +5,7 @@ use Prim.Native.Nat.{ℕ, ◌<◌}
 use mathlib.Core.List.{List, []}
 use lib.ListN.{get_or}
 use Rattle.time.specs.Raw.{span}
-use Rattle.cell.specs.Cell.{at}
+use Rattle.lists.specs.Lists.{at}
 use Rattle.lists.proofs.Chunks.{chunk-at}
 use Rattle.settle.specs.Pages.{Cells}
 use Rattle.settle.specs.Settling.{charged}

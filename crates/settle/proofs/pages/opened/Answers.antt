@@ -9,7 +9,7 @@ use native.Mathlib.Numerals.{add-one}
 use native.Mathlib.Omega.{arith}
 use lib.ListN.{length, drop}
 use lib.Seq.{drop-cons, drop-length}
-use Rattle.cell.specs.Cell.{at}
+use Rattle.lists.specs.Lists.{at}
 use Rattle.settle.specs.Pages.{opened}
 use Rattle.settle.proofs.pages.opened.Goals as goal
 use Rattle.settle.proofs.pages.opened.Goals.{then-entry-ne0, else-entry-ne0}

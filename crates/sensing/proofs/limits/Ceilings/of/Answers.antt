@@ -5,8 +5,8 @@ use native.Mathlib.Omega.{arith}
 use lib.ListN.{replicate}
 use Rattle.cell.specs.Cell.{class_of, ceiling_of, ceiling_table}
 use Rattle.cell.proofs.Ceiling.{ceiling-by-class}
-use Rattle.cell.proofs.Maps.{mapi-same}
-use Rattle.cell.proofs.Partly.{partly-turn, partly-all}
+use Rattle.lists.proofs.Maps.{mapi-same}
+use Rattle.lists.proofs.Partly.{partly-turn, partly-all}
 use Rattle.sensing.proofs.limits.Ceilings.of.Invariants.{by-class-there}
 use Rattle.sensing.proofs.limits.Ceilings.of.Goals as goal
 

@@ -3,8 +3,8 @@
 use Prim.Native.Nat.{ℕ, ◌%◌}
 use mathlib.Core.Path.{◌≡◌}
 use mathlib.Core.List.{List}
-use Rattle.cell.specs.Cell.{at}
-use Rattle.cell.proofs.Partly.{partly}
+use Rattle.lists.specs.Lists.{at}
+use Rattle.lists.proofs.Partly.{partly}
 use Rattle.sensing.proofs.limits.Ceilings.of.Given as goal
 
 abbrev pub by-class-there : List ℕ → List ℕ → ℕ → ℕ → ℕ

@@ -8,7 +8,8 @@ use native.Mathlib.Numerals.{add-one}
 use native.Mathlib.Omega.{arith}
 use Rattle.std.proofs.Math.Nat.{pow-le-pow_right}
 use Rattle.std.proofs.lemmas.Grind.{pow_more}
-use Rattle.cell.specs.Cell.{at, from_bits, sensed_byte}
+use Rattle.lists.specs.Lists.{at}
+use Rattle.cell.specs.Cell.{from_bits, sensed_byte}
 use Rattle.cell.proofs.Ceiling.{sensed-below}
 use Rattle.sensing.proofs.limits.Ceilings.sense_byte.Goals as goal
 

@@ -2,7 +2,8 @@
 -- Assumes nothing.
 use Prim.Native.Nat.{◌+◌, ◌*◌, ◌^◌, ◌<◌}
 use mathlib.Core.Path.{◌≡◌}
-use Rattle.cell.specs.Cell.{at, from_bits, sensed_cell}
+use Rattle.lists.specs.Lists.{at}
+use Rattle.cell.specs.Cell.{from_bits, sensed_cell}
 use Rattle.sensing.proofs.limits.Ceilings.sense_byte.Given as goal
 
 abbrev pub invariant-loop-k : goal.invariant-loop-k

@@ -6,9 +6,10 @@ use mathlib.Core.List.{List, []}
 use mathlib.Core.Path.{◌≡◌, ap, sym, ◌∙◌}
 use native.Mathlib.Omega.{arith}
 use lib.ListN.{get_or}
-use Rattle.cell.specs.Cell.{sensed_page, sensed_byte, at}
+use Rattle.lists.specs.Lists.{at}
+use Rattle.cell.specs.Cell.{sensed_page, sensed_byte}
 use Rattle.lists.proofs.Chunks.{chunk-at}
-use Rattle.cell.proofs.Partly.{partly-turn, partly-all}
+use Rattle.lists.proofs.Partly.{partly-turn, partly-all}
 use Rattle.cell.proofs.Sensed.{sensed_byte-same}
 use Rattle.sensing.proofs.limits.Ceilings.sense_page.Goals as goal
 

@@ -3,8 +3,9 @@
 -- Assumes nothing.
 use Prim.Native.Nat.{◌+◌, ◌*◌}
 use mathlib.Core.Path.{◌≡◌}
-use Rattle.cell.specs.Cell.{sensed_byte, at}
-use Rattle.cell.proofs.Partly.{partly}
+use Rattle.lists.specs.Lists.{at}
+use Rattle.cell.specs.Cell.{sensed_byte}
+use Rattle.lists.proofs.Partly.{partly}
 use Rattle.sensing.proofs.limits.Ceilings.sense_page.Given as goal
 
 abbrev pub invariant-loop-i : goal.invariant-loop-i

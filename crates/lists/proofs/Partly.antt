@@ -9,8 +9,8 @@ use native.Mathlib.Omega.{arith}
 use native.Mathlib.Decide.{ℕ_discrete}
 use lib.ListN.{length, get_or, set, length-set}
 use lib.Seq.{get_or-set_same, get_or-set_other, ext_get_or}
-use Rattle.cell.specs.Cell.{mapi}
-use Rattle.cell.proofs.Maps.{length-mapi, get_or-mapi}
+use Rattle.lists.specs.Lists.{mapi}
+use Rattle.lists.proofs.Maps.{length-mapi, get_or-mapi}
 
 abbrev pub partly : (ℕ → ℕ → ℕ) → ℕ → List ℕ → List ℕ
 partly f zero xs = xs
