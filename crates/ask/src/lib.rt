@@ -19,8 +19,7 @@ pub fn ask(memory: &mut LentMut, events: &mut [u64], asking: Asking) -> Result<A
     ensures limit { value_of result < answer_limit (call_of asking.request) }
 {
     let flash = memory.seen().opened_state()?;
-    let made = attempt(flash, memory.array, memory.charges, events, asking);
-    let answer = made.answer?;
-    write(memory.record, made.flash);
-    Ok(answer)
+    let done = attempt(flash, memory.array, memory.charges, events, asking)?;
+    write(memory.record, done.flash);
+    Ok(done.answer)
 }

@@ -95,13 +95,13 @@ pub fn in_time(flash: &Flash, time: Time) -> Result<Accepted, Refusal>
 
 // Whether a call on a state that was read is refused, by the lines from 4 on.
 #[tactic(auto, using(crate::proofs::Lines::placed_given), unfolding(crate::specs::Memory::time_refusal, crate::specs::Asked::call_refusal))]
-pub fn call_refusal(flash: &Flash, asking: Asking, words: usize) -> Result<Accepted, Refusal>
-    ensures told { told result ≡ call_refusal asking.request asking.time words flash.now }
+pub fn call_refusal(flash: Flash, asking: Asking, words: usize) -> Result<Accepted, Refusal>
+    ensures told { told result ≡ call_refusal asking.request asking.time words flash }
     ensures asked { IfOk result (λ now. now.time ≡ asking.time) }
 {
     let Asking { request, time } = asking;
     call_place(request)?;
-    let now = in_time(flash, time)?;
+    let now = in_time(&flash, time)?;
     let registers = flash.registers;
     if settles(registers, Call::from(request), time) & too_few_words(registers.pulse(), words) {
         return Err(Refusal::Events);

@@ -3,10 +3,10 @@
 
 ghost use Rattle.std.specs.Prelude.{◌≡◌, ◌*◌, ◌≤◌, length};
 ghost use Rattle.refusal.specs.Refusal.{told};
-ghost use Rattle.flash.specs.Chip.{chip};
+ghost use Rattle.flash.specs.Chip.{chip, Fit};
 ghost use Rattle.lent.specs.Memory.{memory_of};
 ghost use Rattle.lent.specs.Asked.{count_of};
-ghost use Rattle.lent.specs.Held.{Ready};
+ghost use Rattle.lent.specs.Held.{Ready, reply, replied};
 ghost use Rattle.listing.specs.Replaying.{reads, stops, idle};
 ghost use Rattle.listing.specs.Held.{came, ended};
 
@@ -28,6 +28,22 @@ fn stops(request: Request, outcome: Result<Answer, Refusal>) -> bool
     ensures { result ≡ stops request (told outcome) (count_of outcome) }
 {
     outcome.map_or(true, |answer| (answer.count != 0) | reads(request))
+}
+
+// One call on the state that is held.
+fn call_held(
+    flash: &mut Flash,
+    array: &mut [u8],
+    charges: &mut [u64],
+    events: &mut [u64],
+    asking: Asking,
+) -> Result<Answer, Refusal>
+    requires { Fit (chip flash.old array.old charges.old) }
+    ensures { replied result events.new (chip flash.new array.new charges.new) ≡ reply asking.request asking.time events.old (chip flash.old array.old charges.old) }
+{
+    let done = attempt(*flash, array, charges, events, asking)?;
+    *flash = done.flash;
+    Ok(done.answer)
 }
 
 // The calls from..end, light ones in runs. A list may hold any number of calls: that these lie in it is a fact of the two.
@@ -56,9 +72,7 @@ pub fn run(
             };
         }
         let asking = call_at(calls, i);
-        let made = attempt(*flash, array, charges, events, asking);
-        *flash = made.flash;
-        let last = made.answer;
+        let last = call_held(flash, array, charges, events, asking);
         i += 1;
         if stops(asking.request, last) {
             return Replayed { done: i, last };

@@ -12,20 +12,20 @@ returns-in_err-flash c =
     let t = asked-first _ _ _ _ _ (rw c.seen.ensures at c.in_err-flash.ensures.told) in
     rw (passed-on _ c.from_residual.ensures.1) (record { same = record { same_record = refl; same_array = refl; same_charges = refl }; outcome = t; limit = limit-above _ })
 
-pub attempt-made-requires : goal.attempt-made-requires
-attempt-made-requires c = opened-fit _ _ (rw c.seen.ensures at c.in_ok-flash.ensures.opened)
+pub attempt-requires : goal.attempt-requires
+attempt-requires c = opened-fit _ _ (rw c.seen.ensures at c.in_ok-flash.ensures.opened)
+
+pub returns-in_err-done : goal.returns-in_err-done
+returns-in_err-done c =
+    let o = rw c.seen.ensures at c.in_ok-flash.ensures.opened in
+    let t = asked-refused _ _ _ _ _ o _ c.in_err-done.ensures.outcome in
+    rw (passed-on _ c.from_residual-in_err-done.ensures.1) (record { same = record { same_record = refl; same_array = refl; same_charges = refl }; outcome = t; limit = limit-above _ })
 
 pub write-requires : goal.write-requires
 write-requires c = opened-long _ _ (rw c.seen.ensures at c.in_ok-flash.ensures.opened)
 
-pub returns-in_err-answer : goal.returns-in_err-answer
-returns-in_err-answer c =
-    let o = rw c.seen.ensures at c.in_ok-flash.ensures.opened in
-    let t = asked-refused _ _ _ _ _ o _ (rw c.in_err-answer.was at c.attempt-made.ensures.outcome) in
-    rw (passed-on _ c.from_residual-in_err-answer.ensures.1) (record { same = record { same_record = refl; same_array = refl; same_charges = refl }; outcome = t; limit = limit-above _ })
-
 pub returns : goal.returns
 returns c =
     let o = rw c.seen.ensures at c.in_ok-flash.ensures.opened in
-    let t = asked-done _ _ _ _ _ o (Ok c.in_ok-answer.answer) (rw c.in_ok-answer.was at c.attempt-made.ensures.outcome) c.write.ensures in
-    record { same = record { same_record = refl; same_array = refl; same_charges = refl }; outcome = t; limit = rw c.in_ok-answer.was at c.attempt-made.ensures.limit }
+    let t = asked-done _ _ _ _ _ o (Ok c.in_ok-done.done.answer) c.in_ok-done.ensures.outcome c.write.ensures in
+    record { same = record { same_record = refl; same_array = refl; same_charges = refl }; outcome = t; limit = c.in_ok-done.ensures.limit }

@@ -12,11 +12,11 @@ returns-then-end-i c =
 
 pub returns-then-stops : goal.returns-then-stops
 returns-then-stops c =
-    gone-stop (gone-light c.loop-i.invariant c.run_light-ahead.ensures) (omega arith) c.call_at-asking.ensures.is c.attempt-made.ensures.outcome c.call_at-asking.ensures.fit (sym c.if-stops.true ∙ c.stops.ensures)
+    gone-stop (gone-light c.loop-i.invariant c.run_light-ahead.ensures) (omega arith) c.call_at-asking.ensures.is c.call_held-last.ensures c.call_at-asking.ensures.fit (sym c.if-stops.true ∙ c.stops.ensures)
 
 pub loop-i-preserved : goal.loop-i-preserved
 loop-i-preserved c =
-    gone-on (gone-light c.loop-i.invariant c.run_light-ahead.ensures) (omega arith) c.call_at-asking.ensures.is c.attempt-made.ensures.outcome c.call_at-asking.ensures.fit (sym c.if-stops.false ∙ c.stops.ensures)
+    gone-on (gone-light c.loop-i.invariant c.run_light-ahead.ensures) (omega arith) c.call_at-asking.ensures.is c.call_held-last.ensures c.call_at-asking.ensures.fit (sym c.if-stops.false ∙ c.stops.ensures)
 
-pub attempt-made-requires : goal.attempt-made-requires
-attempt-made-requires c = ready-fit _ (gone-light c.loop-i.invariant c.run_light-ahead.ensures).ready
+pub call_held-last-requires : goal.call_held-last-requires
+call_held-last-requires c = ready-fit _ (gone-light c.loop-i.invariant c.run_light-ahead.ensures).ready
