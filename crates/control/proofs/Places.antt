@@ -1,12 +1,12 @@
 -- Blocks and pages by their places: one block after the other is tried, each lies in the array, and a page of the array lies in the block
--- that is told and in no other. Assumes nothing.
+-- that is told and in no other. A stretch of addresses touches a page exactly where one of them lies in it. Assumes nothing.
 use mathlib.Core.Path.{◌≡◌, refl, sym, ap, ◌∙◌}
 use mathlib.Core.Bool.{Bool, true, false, cond}
 use mathlib.Core.List.{List, [], ◌∷◌}
-use Prim.Native.Nat.{ℕ, zero, suc, ◌+◌, ◌^◌, ◌<◌, ◌≤◌}
+use Prim.Native.Nat.{ℕ, zero, suc, ◌+◌, ◌-◌, ◌*◌, ◌/◌, ◌^◌, ◌<◌, ◌≤◌}
 use native.Mathlib.Numerals.{add-one}
 use native.Mathlib.Omega.{arith}
-use native.Mathlib.Decide.{ℕ_discrete}
+use native.Mathlib.Decide.{ℕ_discrete, dec_lt}
 use borrow.Author.Tests.{ltb-true, ltb-false, leb-true, lt-ltb, le-ltb, le-leb}
 use Rattle.std.specs.Prelude.{Option, Some, IfSome}
 use Rattle.std.specs.Option.{option_map}
@@ -14,7 +14,7 @@ use Rattle.std.specs.List.{find, range_with_len}
 use Rattle.std.proofs.lemmas.Bool.{and_parts}
 use Rattle.std.proofs.lemmas.Iterator.Adapters.{option_map_id}
 use Rattle.control.specs.declared.Range.{Range}
-use Rattle.control.specs.Blocks.{covers, erase_range, InOrder, block_range, block_from, block_of}
+use Rattle.control.specs.Blocks.{covers, erase_range, InOrder, block_range, block_from, block_of, pages_touched}
 use Rattle.control.proofs.Tiling.{blocks-in-order}
 
 -- ---- ranges
@@ -123,3 +123,25 @@ block-only (suc n) b q p c (first, rest) low high e =
 pub block-of-page : (b p : ℕ) → b < 6 → covers (block_range b) p ≡ true → block_of p ≡ Some b
 unfolding block_of values
 block-of-page b p h e = block-only 6 0 0 p b blocks-in-order (omega arith) (omega arith) e
+
+-- ---- the pages of a stretch of addresses
+
+module _ (from to : ℕ) where
+  -- an address of the stretch lies in a page that is told
+  pub touched : (a : ℕ) → from ≤ a → a ≤ to → covers (pages_touched from to) (a / 128) ≡ true
+  unfolding pages_touched
+  touched a low high = in-range _ (a / 128) (omega arith) (omega arith)
+
+  -- the pages told lie in the array if the stretch does
+  pub touched-inside : from ≤ to → to < 49152 → (pages_touched from to).first + (pages_touched from to).pages ≤ 384
+  unfolding pages_touched
+  touched-inside h inside = omega arith
+
+  -- and a page that is told has one
+  pub touched-only : (p : ℕ) → from ≤ to → covers (pages_touched from to) p ≡ true → (a : ℕ) × (from ≤ a) × (a ≤ to) × (a / 128 ≡ p)
+  unfolding pages_touched
+  touched-only p h e = let r = from-range (pages_touched from to) p e in by r (dec_lt (p * 128) from)
+    where
+      by : (from / 128 ≤ p) × (p < from / 128 + (to / 128 + 1 - from / 128)) → Dec (p * 128 < from) → (a : ℕ) × (from ≤ a) × (a ≤ to) × (a / 128 ≡ p)
+      by r (yes k) = (from, omega arith, omega arith, omega arith)
+      by r (no k) = (p * 128, omega arith, omega arith, omega arith)

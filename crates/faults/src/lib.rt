@@ -8,9 +8,9 @@ mod wrong_words;
 ghost use Rattle.text.specs.Says.{SaysSome};
 
 use crate::missing_words::missing;
-use words::reason::Reason;
-use text::Text;
 use crate::wrong_words::wrong;
+use text::Text;
+use words::reason::Reason;
 
 // The sentence on a word, or on one that is missing, if the word is empty.
 fn sentence(text: &mut Text, word: &[u8], reason: Reason)

@@ -1,8 +1,8 @@
 // What is missing where a line ends too early. Words are put as they are: nothing is filled in.
 ghost use Rattle.text.specs.Says.{SaysSome};
 
-use words::reason::Reason;
 use text::Text;
+use words::reason::Reason;
 
 // The sentence on each reason. The last are those that only a word that is there can have.
 fn sentence(reason: Reason) -> &'static [u8] {

@@ -1,8 +1,8 @@
 // What is wrong with a word of a line.
 ghost use Rattle.text.specs.Says.{SaysSome};
 
-use words::reason::Reason;
 use text::Text;
+use words::reason::Reason;
 
 // The sentence on each reason, with @ for the word.
 fn template(reason: Reason) -> &'static [u8] {

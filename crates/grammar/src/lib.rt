@@ -10,10 +10,10 @@ use crate::lines::{
 use fields::Fault;
 use lent::Request;
 use moments::moment_in;
-use words::names::{Kind, call_named};
-use words::reason::Reason;
 use time::Time;
 use words::LineWord;
+use words::names::{Kind, call_named};
+use words::reason::Reason;
 
 mod lines;
 

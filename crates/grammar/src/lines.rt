@@ -10,9 +10,9 @@ use fields::{
     Fault, address_in, bit_in, byte_in, mode_in, module_in, oscillator_in, register_in, value_in,
 };
 use lent::Request;
-use words::reason::Reason;
 use time::Time;
 use words::LineWord;
+use words::reason::Reason;
 
 // A line that ends with the word w: no word is left over.
 #[tactic(auto, unfolding(crate::specs::Grammar::ended))]

@@ -8,9 +8,9 @@ ghost use Rattle.snapshot.specs.Asked.{valid_refusal, valid_answer, write_refusa
 use lent::memory::{Lent, LentMut};
 use refusal::{told, told_into};
 use restore::read_snapshot;
+use restore::validity::see_valid;
 use save::write_snapshot;
 use time::Time;
-use restore::validity::see_valid;
 
 // Whether a record's state is valid at a time.
 #[tactic(auto, using(crate::proofs::Answered::placed), unfolding(snapshot::specs::Asked::valid_answer))]

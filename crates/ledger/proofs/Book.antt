@@ -16,11 +16,12 @@ use Rattle.time.specs.declared.Time.{Time}
 use Rattle.time.specs.Raw.{raw}
 use Rattle.cell.specs.declared.Direction.{Direction}
 use Rattle.cell.specs.declared.Direction.TheVariants.{Program, Erase}
+use Rattle.cell.specs.Cell.{FULL}
 use Rattle.registers.specs.declared.Pulse.{Pulse}
 use Rattle.settle.specs.Pages.{Cells, cell_at}
 use Rattle.settle.specs.Settling.{exposure, ruled, settled_by, same_direction, same_time, same_pulse}
 use Rattle.settle.proofs.Slots.{SlotsOf}
-use Rattle.settle.proofs.Expose.{exposures-join, no-exposure, ruled-add}
+use Rattle.settle.proofs.Expose.{exposures-join, no-exposure, ruled-add, ruled-zero}
 use Rattle.flash.specs.Looking.{exposed_by}
 use Rattle.flash.proofs.Look.{look-cell}
 use Rattle.ledger.specs.Ledger.{booked}
@@ -77,6 +78,12 @@ exposed-above : (p : Pulse) (latch : List ℕ) (l i q : ℕ) → 0 < l → expos
 unfolding exposed_by
 exposed-above p latch zero i q h = absurd (omega arith)
 exposed-above p latch (suc l) i q h = refl
+
+-- for a charge that a cell can hold it is the rule, by no exposure too
+pub exposed-ruled : (p : Pulse) (latch : List ℕ) (l i q : ℕ) → q ≤ FULL → exposed_by p latch l i q ≡ ruled p latch l i q
+unfolding exposed_by
+exposed-ruled p latch zero i q h = sym (ruled-zero p latch i q h)
+exposed-ruled p latch (suc l) i q h = refl
 
 exposed-add : (p : Pulse) (latch : List ℕ) (l m i q : ℕ) → exposed_by p latch m i (exposed_by p latch l i q) ≡ exposed_by p latch (l + m) i q
 unfolding exposed_by

@@ -6,24 +6,15 @@ use mathlib.Core.List.{List}
 use Prim.Native.Nat.{ℕ, zero, suc, ◌≤◌, ◌<◌}
 use native.Mathlib.Omega.{arith}
 use lib.ListN.{length}
-use borrow.Author.Tests.{le-ltb, leb-false, ltb-false}
+use borrow.Author.Tests.{leb-false, ltb-false}
 use Rattle.time.specs.declared.Time.{Time}
 use Rattle.layout.specs.Layout.{accepted, decoded}
-use Rattle.lent.specs.Memory.{Memory, sizes_misfit, past_end, bit_over, is_refusal, last_second, too_early}
-use Rattle.lent.specs.Looked.{sized_refusal, look_refusal, output_refusal, address_place, cell_place}
+use Rattle.lent.specs.Memory.{sizes_misfit, past_end, bit_over, is_refusal, last_second, too_early}
+use Rattle.lent.specs.Looked.{sized_refusal, address_place, cell_place}
 use Rattle.cell.specs.Cell.{array_bytes}
 use Rattle.std.proofs.lemmas.Bool.{or_parts}
 use Rattle.lent.proofs.Lines.{line}
 use Rattle.lent.proofs.Fitted.{Sizes, sizes-fit}
-
--- ---- the room for an answer
-
--- with room for the answer a look that writes it is refused as any look is
-pub roomy : (n room : ℕ) (t : Time) (m : Memory) → n ≤ room → output_refusal n t room m ≡ look_refusal 0 t m
-unfolding sized_refusal output_refusal
-roomy n room t m h = rw (le-ltb room n h)
-
--- ---- the place of a look
 
 pub inside : (a : ℕ) {n : ℕ} → n ≡ address_place a → n ≡ 0 → a < array_bytes
 inside a e z = leb-false _ _ (line 3 (past_end a) 0 (sym e ∙ z)).0

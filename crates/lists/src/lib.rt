@@ -1,2 +1,2 @@
-// Laws on lists and choices that name nothing of the flash: proofs alone.
+// Lists by place, and laws on lists and choices, which name nothing of the flash: definitions and proofs alone.
 #![tactic(auto)]

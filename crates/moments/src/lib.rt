@@ -6,8 +6,8 @@ ghost use Rattle.moments.specs.Moments.{part_of, seconds, exactly, with_decimals
 
 use byte_search::find;
 use digits::{NoNumber, decimal};
-use words::reason::Reason;
 use time::{Duration, MICROS, MICROSECOND, Time};
+use words::reason::Reason;
 
 // A part of a word, which is a decimal number.
 fn part_in(word: &[u8]) -> Result<u64, Reason>

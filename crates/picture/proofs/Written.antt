@@ -23,10 +23,6 @@ module _ (g : ℕ → ℕ) where
   unfolding written
   at-written n out i h = get_or-mapi _ out i h
 
-  -- each byte written
-  pub written_at : (n : ℕ) (out : List ℕ) (i : ℕ) → i < length out → i < n → at (written g n out) i ≡ g i
-  written_at n out i h k = at-written n out i h ∙ rw (lt-ltb i n k)
-
   pub written_none : (out : List ℕ) → out ≡ written g 0 out
   written_none out =
       ext_get_or 0 out _ (sym (length-written 0 out)) (λ i h. sym (at-written 0 out i h ∙ rw (le-ltb i 0 (omega arith))))

@@ -12,6 +12,7 @@ ghost use Rattle.snapshot.specs.Asked.{read_refusal, memory_read};
 ghost use Rattle.snapshot.specs.Places.{place_judged, place_read};
 
 use crate::loading::{flash_at, load_pages};
+use crate::validity::valid;
 use cell::FLASH_SIZE;
 use coding::write;
 use lent::memory::LentMut;
@@ -19,7 +20,6 @@ use refusal::Refusal;
 use scan::scan;
 use scan::scanned::Scanned;
 use time::Time;
-use crate::validity::valid;
 
 // A snapshot whose fields are all good is taken, unless bytes are left over or its state is not valid.
 fn take(snapshot: &Scanned, memory: &mut LentMut, time: Time) -> Result<(), Refusal>

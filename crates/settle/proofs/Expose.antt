@@ -5,19 +5,21 @@ use mathlib.Core.Path.{◌≡◌, refl, ap, sym, ◌∙◌}
 use mathlib.Core.Logic.{◌⊎◌, inl, inr}
 use mathlib.Core.Bool.{Bool, true, false, cond, and-false}
 use mathlib.Core.List.{List}
-use Prim.Native.Nat.{ℕ, zero, suc, ◌+◌, ◌*◌, ◌/◌, ◌%◌, ◌≤◌, ◌<◌}
+use Prim.Native.Nat.{ℕ, zero, suc, ◌+◌, ◌*◌, ◌/◌, ◌%◌, ◌≤◌, ◌<◌, min}
 use native.Mathlib.Omega.{arith}
 use native.Mathlib.Decide.{dec_le, dec_lt}
 use borrow.Author.Tests.{le-leb, lt-leb, lt-ltb, le-ltb}
 use lib.ListN.{length, get_or-eq_default}
-use lib.Dec.{leb}
+use lib.Dec.{eqb, leb}
 use Rattle.std.specs.Prelude.{Option, Some, None}
 use Rattle.time.specs.declared.Time.{Time}
 use Rattle.time.specs.Raw.{raw}
 use Rattle.time.proofs.Laws.{raw-later}
+use Rattle.cell.specs.declared.Direction.{Direction}
+use Rattle.cell.specs.declared.Direction.TheVariants.{Program, Erase}
 use Rattle.cell.specs.declared.Sense.TheVariants.{Normal}
 use Rattle.lists.specs.Lists.{at}
-use Rattle.cell.specs.Cell.{FULL, bit, first_charge, page_bit, exposed}
+use Rattle.cell.specs.Cell.{FULL, bit, first_charge, page_bit, moved, exposed}
 use Rattle.lists.proofs.Maps.{length-mapi, get_or-mapi}
 use Rattle.cell.proofs.Rule.{exposures-add, exposed-full}
 use Rattle.cell.proofs.Sensed.{sensed_byte-same, sensed_byte-lt}
@@ -67,6 +69,15 @@ whether p x = by (dec_le p.first x) (dec_lt x (p.first + p.pages))
 
 -- ---- the rule
 
+exposed-zero : (d : Direction) (b q : ℕ) → q ≤ FULL → exposed d b 0 q ≡ q
+unfolding exposed moved
+exposed-zero Program b q h = by (eqb b 0)
+  where
+    by : (t : Bool) → cond t (min (q + 100 * 0) FULL) q ≡ q
+    by true = omega arith
+    by false = refl
+exposed-zero Erase b q h = omega arith
+
 module _ (p : Pulse) (latch : List ℕ) where
   pub ruled-yes : (l i q : ℕ) → covers p (i / 1024) ≡ true → ruled p latch l i q ≡ charged p latch l i q
   unfolding ruled
@@ -75,6 +86,15 @@ module _ (p : Pulse) (latch : List ℕ) where
   pub ruled-no : (l i q : ℕ) → covers p (i / 1024) ≡ false → ruled p latch l i q ≡ q
   unfolding ruled
   ruled-no l i q e = rw e
+
+  -- no exposure leaves what a cell can hold as it is
+  pub ruled-zero : (i q : ℕ) → q ≤ FULL → ruled p latch 0 i q ≡ q
+  unfolding ruled charged
+  ruled-zero i q h = by (covers p (i / 1024))
+    where
+      by : (b : Bool) → cond b (exposed p.direction (page_bit latch (i % 1024)) 0 q) q ≡ q
+      by true = exposed-zero p.direction (page_bit latch (i % 1024)) q h
+      by false = refl
 
   pub ruled-add : (l m i q : ℕ) → ruled p latch m i (ruled p latch l i q) ≡ ruled p latch (l + m) i q
   unfolding ruled charged

@@ -5,9 +5,9 @@ ghost use Rattle.control.specs.Blocks.{blocks};
 ghost use Rattle.summary.specs.Summary.{lines, left_out_line, pulses_in, counts_text};
 
 use crate::series::put_lines;
+use answers::report::{calls, pulses};
 use control::blocks::BLOCKS;
 use settle::tally::Tally;
-use answers::report::{calls, pulses};
 use text::Text;
 use verdict::Counts;
 

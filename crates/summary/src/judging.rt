@@ -6,9 +6,9 @@ ghost use Rattle.summary.specs.Summary.{address_line, only_line, legible_among, 
 ghost use Rattle.summary.specs.Summary.{lies as Summary·lies};
 
 use crate::Judged;
+use answers::report::verdict as verdict_line;
 use cell::{PAGE, PAGES};
 use flash::PageState;
-use answers::report::verdict as verdict_line;
 use text::Text;
 use verdict::states::count_in;
 

@@ -6,10 +6,10 @@ ghost use Rattle.control.specs.Blocks.{blocks};
 ghost use Rattle.summary.specs.Summary.{lines, pages_in, state_line, page_told, pages_text};
 
 use crate::series::put_lines;
+use answers::report::{legible_page, pages};
 use cell::{PAGE, PAGES};
 use control::blocks::{BLOCKS, block_range};
 use flash::PageState;
-use answers::report::{legible_page, pages};
 use text::Text;
 use verdict::states::count_in_block;
 

@@ -10,9 +10,9 @@ use course::{LineSoFar, Place};
 use fields::Fault;
 use grammar::Line;
 use history::take;
-use words::reason::Reason;
 use time::Time;
 use words::Word;
+use words::reason::Reason;
 
 // A look and a fault are done after the calls that wait, so that all is told in its order.
 fn is_due(line: Line) -> bool

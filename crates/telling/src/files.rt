@@ -1,12 +1,12 @@
 // The files that a run writes: the state that it reached, and a picture of all cells. Both are drafts until each is whole.
 use crate::saying::say_file_trouble;
 use crate::{Outlets, Told};
+use answers::report::picture_head;
 use cell::CELLS;
 use drafts::{discard, draft, keep};
 use lent::memory::Lent;
 use notices::FileTrouble;
 use picture::see_shades;
-use answers::report::picture_head;
 use save::write_snapshot;
 use slices::first;
 use std::rt::Files;

@@ -3,9 +3,9 @@ use crate::Told;
 use faults::fault;
 use notices::help::help;
 use notices::{FileTrouble, file_trouble, image_length};
-use words::reason::Reason;
 use refusals::{look_refusal, no_snapshot, refusal, unseen};
 use text::Text;
+use words::reason::Reason;
 
 // No sentence is longer.
 const ROOM: usize = 4096;

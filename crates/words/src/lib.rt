@@ -1,4 +1,4 @@
-// Words of a line, and whether a word spells a name.
+// Words of a line, whether a word spells a name, what it names, and why a line can't be taken.
 #![tactic(auto)]
 
 ghost use Rattle.std.specs.Prelude.{◌≡◌, ◌≤◌, length};

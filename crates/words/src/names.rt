@@ -3,8 +3,8 @@ ghost use Rattle.std.specs.Prelude.{◌≡◌};
 ghost use Rattle.words.specs.Text.{named};
 ghost use Rattle.words.specs.Names.{call_named, register_named, modes, modules, oscillators};
 
-use bits::{EBR1, FENR, FLMCR1, FLMCR2, FLPWCR};
 use crate::spelling::named;
+use bits::{EBR1, FENR, FLMCR1, FLMCR2, FLPWCR};
 
 pub mod values;
 

@@ -1,4 +1,4 @@
--- `parts::answering::stored_answer` meets its contract: a read that did not settle is normal, and its addresses lie inside the array. Assumes nothing.
+-- `flash_answer::stored_answer` meets its contract: a read that did not settle is normal, and its addresses lie inside the array. Assumes nothing.
 use borrow.Author.Tests.{ltb-true, not-false}
 use Prim.Native.Nat.{suc, ◌<◌}
 use Rattle.registers.specs.Calls.{settles}

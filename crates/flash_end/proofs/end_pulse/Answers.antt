@@ -1,4 +1,4 @@
--- `parts::ending::end_pulse` meets its contract: no word for the same pulse, for none or for an empty range, else one. Assumes nothing.
+-- `flash_end::end_pulse` meets its contract: no word for the same pulse, for none or for an empty range, else one. Assumes nothing.
 use denote.Enum.Bare.{sameb}
 use Rattle.std.specs.Prelude.{Option, Some, None}
 use Rattle.std.specs.Option.{option_eq}

@@ -1,4 +1,4 @@
--- `parts::verifying::sense_four` meets its contract: each of the four is the byte that its cells sense. Assumes nothing.
+-- `flash_sense::sense_four` meets its contract: each of the four is the byte that its cells sense. Assumes nothing.
 use mathlib.Core.Path.{◌≡◌, sym, ◌∙◌}
 use Prim.Native.Nat.{ℕ, ◌+◌, ◌*◌, ◌<◌}
 use mathlib.Core.List.{List}

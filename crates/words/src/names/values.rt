@@ -4,8 +4,8 @@ ghost use Rattle.words.specs.Names.{bit_named};
 ghost use Rattle.words.specs.Values.{with_bit, bits_named};
 
 use crate::names::NoBits;
-use bits::{E, EBR1, ESU, EV, FENR, FLAG, FLMCR1, FLMCR2, FLPWCR, P, PSU, PV, SWE, has};
 use crate::spelling::named;
+use bits::{E, EBR1, ESU, EV, FENR, FLAG, FLMCR1, FLMCR2, FLPWCR, P, PSU, PV, SWE, has};
 
 // A bit of a register.
 #[tactic(auto, unfolding(crate::specs::Names::bit_named))]
