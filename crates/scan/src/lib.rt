@@ -8,7 +8,8 @@ pub mod state;
 ghost use Rattle.std.specs.Prelude.{◌≡◌, ◌+◌, ◌*◌, ◌/◌, ◌^◌, ◌<◌, ◌≤◌, length, if◌then◌else◌, nat_le, nat_lt, OnOk, IfOk};
 ghost use Rattle.cell.specs.Cell.{FULL, pages};
 ghost use Rattle.rows.specs.Rows.{word};
-ghost use Rattle.refusal.specs.Refusal.{told};
+ghost use Rattle.refusal.specs.declared.Refusal.TheVariants.{Field};
+ghost use Rattle.refusal.specs.Refusal.{number, told};
 ghost use Rattle.snapshot.specs.Places.{pages_place, count_in, cells_number, address_number, with_page, pages_number, pages_index, bytes_number, end_number, state_length, state_number, scan_number};
 
 use crate::scanned::Scanned;
@@ -40,7 +41,7 @@ fn over(charge: u64) -> u64
 // Whether none of so many charges in a row is over FULL. Each is looked at, so that no turn of the loop asks whether to go on.
 fn none_over(bytes: &[u8], at: usize, count: usize) -> bool
     requires { at + 8 * count ≤ length bytes.now }
-    ensures { cells_number count bytes.now at ≡ (if result then 0 else 10) }
+    ensures { cells_number count bytes.now at ≡ (if result then 0 else number Field) }
 {
     let (charges, _) = bytes[at..].as_chunks::<8>();
     let mut all: u64 = 0;
