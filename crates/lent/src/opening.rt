@@ -26,7 +26,8 @@ pub fn sized_record(record: &[u8]) -> Result<&[u8; RECORD_LEN], Refusal>
     <&[u8; RECORD_LEN]>::try_from(record).map_err(|_| Refusal::Memory)
 }
 
-// The state of a record alone: nothing travels with it that a struct could hold.
+// The state of a record alone: nothing travels with it that a struct could hold. Inlined: called, the state would be copied twice more.
+#[inline(always)]
 #[tactic(auto, unfolding(crate::specs::Looked::register_refusal))]
 pub fn opened_record(record: &[u8]) -> Result<Flash, Refusal>
     ensures told { Answers (register_refusal «record».now) (decoded «record».now) result }
