@@ -24,6 +24,16 @@ fn fresh() -> Flash
     }
 }
 
+// Bytes copied into as many. In a loop: `copy_from_slice` would have a C host's archive need `memmove`, and `memcpy` does.
+pub fn copy(from: &[u8], to: &mut [u8])
+    requires { length from.now ≡ length to.old }
+    ensures { to.new ≡ from.now }
+{
+    for (i, byte) in from.iter().enumerate() {
+        to[i] = *byte;
+    }
+}
+
 // A new array: record and array are written, the charge store keeps its numbers.
 #[tactic(auto, unfolding(crate::specs::Looked::new_refusal))]
 pub fn make(
@@ -43,6 +53,6 @@ pub fn make(
         return Err(Refusal::Memory);
     }
     write(record, fresh());
-    array.copy_from_slice(firmware);
+    copy(firmware, array);
     Ok(())
 }

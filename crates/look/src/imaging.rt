@@ -51,12 +51,14 @@ fn sensed_blank(cells: &CellsRef, exposure: &Exposure, page: usize) -> bool
 }
 
 // The stored bytes from `start` to `end`, into `out`. Here and below what is written to may be longer, as a host may lend it: so it is a
-// slice with room, and no array.
+// slice with room, and no array. In a loop, as `copy_from_slice` would have a C host's archive need `memmove` beside `memcpy`.
 fn write_stored(array: &[u8], start: usize, end: usize, out: &mut [u8])
     requires { (start ≤ end) × (end ≤ length array.now) × (end ≤ length out.old) }
     ensures { out.new ≡ sets out.old start (take (end - start) (drop start array.now)) }
 {
-    out[start..end].copy_from_slice(&array[start..end]);
+    for address in start..end {
+        out[address] = array[address];
+    }
 }
 
 // The bytes of a page that an exposure covers, into `out`.

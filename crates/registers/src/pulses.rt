@@ -108,7 +108,9 @@ impl Registers {
         self
     }
 
-    // What reading a byte does to the registers.
+    // What reading a byte does to the registers. Inlined: called, it copies them by `memmove`, for which a host of the archives in C has had no
+    // need.
+    #[inline(always)]
     #[tactic(auto, unfolding(crate::specs::Pulses::read8))]
     pub fn read8(self, now: Accepted) -> Registers
         ensures { result ≡ read8 now.time self }

@@ -15,6 +15,7 @@ use crate::loading::{flash_at, load_pages};
 use crate::validity::valid;
 use cell::FLASH_SIZE;
 use coding::write;
+use lent::making::copy;
 use lent::memory::LentMut;
 use refusal::Refusal;
 use scan::scan;
@@ -36,7 +37,7 @@ fn take(snapshot: &Scanned, memory: &mut LentMut, time: Time) -> Result<(), Refu
     if !valid(time, flash) {
         return Err(Refusal::Invalid);
     }
-    memory.array.copy_from_slice(&snapshot.bytes[0..FLASH_SIZE]);
+    copy(&snapshot.bytes[0..FLASH_SIZE], memory.array);
     load_pages(snapshot.bytes, snapshot.count(), memory.charges);
     write(memory.record, flash);
     Ok(())
