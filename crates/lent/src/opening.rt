@@ -48,24 +48,18 @@ impl<'a> Lent<'a> {
         sizes_misfit(self.record.len(), self.array.len(), self.charges.len())
     }
 
-    // The state alone, for whoever changes the memory.
+    // The state with the memory, which it fits. Here and below inlined, but for the state alone: called, a look would copy the whole state
+    // where it reads a few fields.
+    #[inline(always)]
     #[tactic(auto, unfolding(crate::specs::Looked::register_refusal, crate::specs::Looked::memory_refusal))]
-    pub fn opened_state(self) -> Result<Flash, Refusal>
-        ensures told { told result ≡ memory_refusal (memory_in self.entry) }
-        ensures opened { IfOk result (λ flash. Opened (memory_in self.entry) flash) }
-    {
-        if self.misfits() {
-            return Err(Refusal::Memory);
-        }
-        opened_record(self.record)
-    }
-
-    // The state with the memory, which it fits.
     pub fn opened(self) -> Result<Held<'a>, Refusal>
         ensures told { Opens (memory_refusal (memory_in self.entry)) (memory_in self.entry) result }
         ensures opened { IfOk result (λ held. Opened (memory_in self.entry) held.flash) }
     {
-        let flash = self.opened_state()?;
+        if self.misfits() {
+            return Err(Refusal::Memory);
+        }
+        let flash = opened_record(self.record)?;
         Ok(Held {
             flash,
             array: self.array,
@@ -73,7 +67,16 @@ impl<'a> Lent<'a> {
         })
     }
 
+    // The state alone, for whoever changes the memory.
+    pub fn opened_state(self) -> Result<Flash, Refusal>
+        ensures told { told result ≡ memory_refusal (memory_in self.entry) }
+        ensures opened { IfOk result (λ flash. Opened (memory_in self.entry) flash) }
+    {
+        Ok(self.opened()?.flash)
+    }
+
     // The state for a look at a time, and at a place that may be refused.
+    #[inline(always)]
     #[tactic(auto, using(crate::proofs::Lines::placed_given), unfolding(crate::specs::Memory::time_refusal, crate::specs::Looked::memory_refusal, crate::specs::Looked::sized_refusal))]
     pub fn opened_at(self, place: Result<(), Refusal>, time: Time) -> Result<Held<'a>, Refusal>
         ensures told { Opens (look_refusal (told place) time (memory_in self.entry)) (memory_in self.entry) result }
@@ -86,6 +89,7 @@ impl<'a> Lent<'a> {
     }
 
     // The state for a look at a time that needs so many bytes of output and has some room.
+    #[inline(always)]
     #[tactic(auto, unfolding(crate::specs::Looked::sized_refusal, crate::specs::Looked::output_refusal))]
     pub fn opened_with_room(
         self,
