@@ -7,7 +7,7 @@ ghost use Rattle.grammar.specs.Grammar.{line_for, call_line, parsed, line_of};
 use crate::lines::{
     data_line, ended, environment_line, look_line, read_line, word_line, write_line,
 };
-use fields::Fault;
+pub use fields::Fault;
 use lent::Request;
 use moments::moment_in;
 use time::Time;

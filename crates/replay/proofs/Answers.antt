@@ -3,7 +3,7 @@
 use mathlib.Core.Path.{◌≡◌, refl, sym, ap, ◌∙◌}
 use mathlib.Core.Bool.{Bool, true, false, cond}
 use mathlib.Core.List.{List}
-use Prim.Native.Nat.{ℕ, ◌-◌, ◌/◌, ◌≤◌}
+use Prim.Native.Nat.{ℕ, ◌-◌, ◌*◌, ◌/◌, ◌≤◌}
 use native.Mathlib.Omega.{arith}
 use borrow.Author.Tests.{ltb-true, ltb-false}
 use Rattle.std.specs.Prelude.{min}
@@ -27,6 +27,10 @@ end_is to words = by (ltb to (words / 3)) refl
     by : (b : Bool) → ltb to (words / 3) ≡ b → cond b to (words / 3) ≡ min to (words / 3)
     by true h = omega (arith, ltb-true to (words / 3) h)
     by false h = omega (arith, ltb-false to (words / 3) h)
+
+-- which lies inside the list
+pub end-inside : (to words : ℕ) → 3 * end_in to words ≤ words
+end-inside to words = rw (end_is to words) (omega arith)
 
 module _ (end from : ℕ) (calls lent : List ℕ) (m : Memory) where
   pub nothing-done : end ≤ from → Replays from (asks_after (idle lent m) (end - from) from calls) lent m from 0 0 0 m lent

@@ -57,6 +57,9 @@ pub record Begins (c : Course) (r : Run) : Type 0 where
   pub have_none : r.have ≡ 0
   pub more_to_come : r.more ≡ true
   pub starts : (w : Manner) (b : Backlog) (m : Memory) (events : List ℕ) → reader_in w r b m events ≡ starts_with (desk c m events)
+  pub none_run : r.place.running ≡ false
+  pub none_wait : r.place.waiting ≡ 0
+  pub next_first : r.place.next ≡ 0
 
 -- r' is a run with a new piece of so many bytes.
 pub record WithPiece (have : ℕ) (r r' : Run) : Type 0 where

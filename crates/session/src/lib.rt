@@ -19,7 +19,7 @@ use telling::{Outlets, Told};
 mod complaints;
 pub mod desk;
 mod pieces;
-mod run;
+pub mod run;
 mod stepping;
 mod turns;
 
