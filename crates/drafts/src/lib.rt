@@ -42,11 +42,13 @@ fn may_take<R: Files>(rt: &R, path: &str) -> io::Result<()> {
     }
 }
 
-// Writes both parts to a file, also on its disk, since nothing is told of a failure to close it. It is closed here, also on an error.
+// Writes both parts to a file, also on its disk, since nothing is told of a failure to close it. All is tried, whatever fails before, and it
+// is closed here, also on an error.
 fn write<F: Write + OpenFile + Drop>(mut file: F, head: &[u8], rest: &[u8]) -> io::Result<()> {
-    file.write_all(head)?;
-    file.write_all(rest)?;
-    file.sync_all()
+    let began = file.write_all(head);
+    let went_on = file.write_all(rest);
+    let kept = file.sync_all();
+    began.and(went_on).and(kept)
 }
 
 // Makes a file of two parts, where there is none of that name. On an error there is none of this.
