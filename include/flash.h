@@ -1,6 +1,6 @@
 /*
  * The flash of the password box, for a program in C or C++ that links target/staticlib/libhost.a
- * (made by `./archives host`, for x86-64 Linux).
+ * (made by `./archives host`, for x86-64 Linux). The archive needs memcpy and memset, and nothing else.
  *
  * Each function returns 0 if it answered, else the number of a refusal. The checks go in the order
  * of the numbers, and the first that fails gives the answer. A refusal changes nothing that was
